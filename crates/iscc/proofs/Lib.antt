@@ -1,0 +1,21 @@
+-- The laws of the definitions, proved once and cited by the proofs of the crates above.
+pub mod Answer
+pub mod Digits
+pub mod ByteDigits
+pub mod Table
+pub mod Alphabet
+pub mod Base32
+pub mod Varnibble
+pub mod Header
+pub mod Permitted
+pub mod Item
+pub mod Meaning
+pub mod Items
+pub mod Split
+pub mod Order
+pub mod Distance
+pub mod Text
+pub mod Area
+pub mod Demand3
+pub mod Doors
+pub mod Tests

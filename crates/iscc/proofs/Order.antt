@@ -1,0 +1,129 @@
+-- A list's order does not matter to the composite that it makes, nor to the number with which it is refused. Assumes nothing.
+use Prim.Native.Nat.{ℕ, zero, suc}
+use mathlib.Core.Path.{_≡_, refl, sym, _∙_, ap}
+use mathlib.Core.Bool.{Bool, true, false, not, cond, _&&_, _||_}
+use mathlib.Core.Option.{Option, none, some}
+use mathlib.Core.List.{List, [], _∷_, _++_}
+use native.Mathlib.Decide.{ℕ-discrete}
+use native.Mathlib.Omega.{arith}
+use lib.Dec.{eqb}
+use borrow.Author.Tests.{eqb-true, eq-eqb, ne-eqb}
+use Rattle.iscc.specs.Answer.{_>>=_, _>>_, _otherwise_}
+use Rattle.iscc.specs.Permitted.{MainType, META, SEMANTIC, CONTENT, DATA, INSTANCE, number}
+use Rattle.iscc.specs.Item.{Item}
+use Rattle.iscc.specs.Lists.{every, pairwise}
+use Rattle.iscc.specs.Items.{sameType, joinable, is64Bits, otherType, hasSubtype, sharedSubtype, bodyIn, subtypeIn, has, subtypeOf, compositeFrom, meaningOfItems}
+use Rattle.iscc.proofs.Digits.{and-true}
+use Rattle.iscc.proofs.Items.{sameType-eq}
+
+-- the same items in another order
+pub data Reordered : List Item → List Item → Type 0 where
+  nil : Reordered [] []
+  keep : (i : Item) {is js : List Item} → Reordered is js → Reordered (i ∷ is) (i ∷ js)
+  swap : (i j : Item) (is : List Item) → Reordered (i ∷ j ∷ is) (j ∷ i ∷ is)
+  then : {is js ks : List Item} → Reordered is js → Reordered js ks → Reordered is ks
+
+and-swap : (a b c : Bool) → a && (b && c) ≡ b && (a && c)
+and-swap true b c = refl
+and-swap false true c = refl
+and-swap false false c = refl
+
+and-four : (a b c d : Bool) → (a && b) && (c && d) ≡ (a && c) && (b && d)
+and-four true true c d = refl
+and-four true false true d = refl
+and-four true false false d = refl
+and-four false b c d = refl
+
+eqb-comm : (x y : ℕ) → eqb x y ≡ eqb y x
+eqb-comm x y = elim (ℕ-discrete x y) [ yes e ↦ rw e | no d ↦ ne-eqb x y d ∙ sym (ne-eqb y x (λ e. d (sym e))) ]
+
+every-same : (p : Item → Bool) {is js : List Item} → Reordered is js → every p is ≡ every p js
+unfolding every
+every-same p nil = refl
+every-same p (keep i r) = rw (every-same p r)
+every-same p (swap i j is) = and-swap (p i) (p j) (every p is)
+every-same p (then r q) = every-same p r ∙ every-same p q
+
+-- a relation that does not look at the order
+pairwise-same : (r : Item → Item → Bool) → ((i j : Item) → r i j ≡ r j i) → {is js : List Item} → Reordered is js → pairwise r is ≡ pairwise r js
+unfolding pairwise every
+pairwise-same r c nil = refl
+pairwise-same r c (keep i q) = rw (pairwise-same r c q, every-same (r i) q)
+pairwise-same r c (swap i j is) = rw (c i j) (and-four (r j i) (every (r i) is) (every (r j) is) (pairwise r is))
+pairwise-same r c (then p q) = pairwise-same r c p ∙ pairwise-same r c q
+
+type-comm : (i j : Item) → otherType i j ≡ otherType j i
+type-comm i j = ap not (eqb-comm (number (i .mainType)) (number (j .mainType)))
+
+subtype-comm : (i j : Item) → sharedSubtype i j ≡ sharedSubtype j i
+subtype-comm i j = rw (eqb-comm (i .subtype) (j .subtype)) (go (hasSubtype i) (hasSubtype j))
+  where
+    go : (a b : Bool) → not (a && b) || eqb (j .subtype) (i .subtype) ≡ not (b && a) || eqb (j .subtype) (i .subtype)
+    go true true = refl
+    go true false = refl
+    go false true = refl
+    go false false = refl
+
+abbrev distinct : List Item → Bool
+distinct is = pairwise otherType is
+
+distinct-same : {is js : List Item} → Reordered is js → distinct is ≡ distinct js
+distinct-same r = pairwise-same otherType type-comm r
+
+-- the first of a main type, in a list that has no main type twice
+first-same : {X : Type 0} (m i j : MainType) (x y z : X) → not (sameType i j) ≡ true → cond (sameType m i) x (cond (sameType m j) y z) ≡ cond (sameType m j) y (cond (sameType m i) x z)
+first-same m i j x y z d = go (sameType m i) (sameType m j) refl refl
+  where
+    go : (a b : Bool) → sameType m i ≡ a → sameType m j ≡ b → cond a x (cond b y z) ≡ cond b y (cond a x z)
+    go true true p q =
+        let e : i ≡ j = sym (sameType-eq m i p) ∙ sameType-eq m j q in
+        let t : sameType i j ≡ true = eq-eqb (number i) (number j) (ap number e) in
+        let f : not (sameType i j) ≡ false = rw t in
+        let n : _≡_ {A = ℕ} 0 1 = cc in
+        absurd (omega arith)
+    go true false p q = refl
+    go false true p q = refl
+    go false false p q = refl
+
+abbrev others : Item → List Item → Bool
+others i is = every (otherType i) is
+
+distinct-tail : (i : Item) (is : List Item) → distinct (i ∷ is) ≡ true → distinct is ≡ true
+unfolding pairwise
+distinct-tail i is d = and-true (others i is) (distinct is) d .1
+
+distinct-pair : (i j : Item) (is : List Item) → distinct (i ∷ j ∷ is) ≡ true → not (sameType (i .mainType) (j .mainType)) ≡ true
+unfolding pairwise every
+distinct-pair i j is d = and-true (not (sameType (i .mainType) (j .mainType))) (others i is) (and-true (others i (j ∷ is)) (distinct (j ∷ is)) d .0) .0
+
+bodyIn-same : (m : MainType) {is js : List Item} → Reordered is js → distinct is ≡ true → bodyIn m is ≡ bodyIn m js
+unfolding bodyIn
+bodyIn-same m nil d = refl
+bodyIn-same m (keep i {is} r) d = let t : distinct is ≡ true = distinct-tail i is d in rw (bodyIn-same m r t)
+bodyIn-same m (swap i j is) d = first-same m (i .mainType) (j .mainType) (some (i .body)) (some (j .body)) (bodyIn m is) (distinct-pair i j is d)
+bodyIn-same m (then r q) d = bodyIn-same m r d ∙ bodyIn-same m q (sym (distinct-same r) ∙ d)
+
+subtypeIn-same : (m : MainType) {is js : List Item} → Reordered is js → distinct is ≡ true → subtypeIn m is ≡ subtypeIn m js
+unfolding subtypeIn
+subtypeIn-same m nil d = refl
+subtypeIn-same m (keep i {is} r) d = let t : distinct is ≡ true = distinct-tail i is d in rw (subtypeIn-same m r t)
+subtypeIn-same m (swap i j is) d = first-same m (i .mainType) (j .mainType) (i .subtype) (j .subtype) (subtypeIn m is) (distinct-pair i j is d)
+subtypeIn-same m (then r q) d = subtypeIn-same m r d ∙ subtypeIn-same m q (sym (distinct-same r) ∙ d)
+
+pub composed-same : {is js : List Item} → Reordered is js → compositeFrom is ≡ compositeFrom js
+unfolding compositeFrom subtypeOf
+composed-same {is} {js} r = go (distinct is) refl
+  where
+    go : (b : Bool) → distinct is ≡ b → compositeFrom is ≡ compositeFrom js
+    go true d =
+        let f : (m : MainType) → bodyIn m is ≡ bodyIn m js = λ m. bodyIn-same m r d in
+        let g : (m : MainType) → subtypeIn m is ≡ subtypeIn m js = λ m. subtypeIn-same m r d in
+        rw (every-same joinable r, every-same is64Bits r, distinct-same r, pairwise-same sharedSubtype subtype-comm r, f META, f SEMANTIC, f CONTENT, f DATA, f INSTANCE, g SEMANTIC, g CONTENT)
+    go false d =
+        let d′ : distinct js ≡ false = sym (distinct-same r) ∙ d in
+        rw (every-same joinable r, every-same is64Bits r, d, d′)
+
+-- a list of two or more means the same whatever its order
+pub means-same : {is js : List Item} → Reordered is js → (i j k l : Item) (is′ js′ : List Item) → is ≡ i ∷ j ∷ is′ → js ≡ k ∷ l ∷ js′ → meaningOfItems is ≡ meaningOfItems js
+unfolding meaningOfItems
+means-same r i j k l is′ js′ e f = rw (e, f) (rw (e, f) at (composed-same r))

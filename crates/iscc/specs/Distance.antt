@@ -1,0 +1,63 @@
+-- Document 01, "Distance": n, the shorter body's bits; d, the differingPlaces bits among the first n; the ratio d / n.
+-- Assumes nothing.
+use Prim.Native.Nat.{ℕ, zero, suc, _+_, _*_, min}
+use mathlib.Core.Bool.{Bool, true, false, cond, _&&_}
+use mathlib.Core.List.{List, [], _∷_, _++_}
+use lib.ListN.{length, take}
+use lib.Dec.{eqb, leb}
+use lib.IntN.{pos}
+use lib.Ieee.{Float, fin, binary32, ofInt, div}
+use Rattle.iscc.specs.Answer.{Answer, accept, refuse, _>>=_, _>>_, _otherwise_}
+use Rattle.iscc.specs.Refusals.{noDistance}
+use Rattle.iscc.specs.Digits.{digits}
+use Rattle.iscc.specs.Permitted.{number}
+use Rattle.iscc.specs.Item.{Item, readOne}
+use Rattle.iscc.specs.Items.{sameType}
+
+-- bytes as bits, the high bit of each byte first
+unfoldable pub bitsOf : List ℕ → List ℕ
+bitsOf [] = []
+bitsOf (b ∷ bs) = digits 1 8 b ++ bitsOf bs
+
+-- in how many places two lists of bits differ, as far as the shorter goes
+unfoldable pub differingPlaces : List ℕ → List ℕ → ℕ
+differingPlaces [] ys = 0
+differingPlaces (x ∷ xs) [] = 0
+differingPlaces (x ∷ xs) (y ∷ ys) = cond (eqb x y) 0 1 + differingPlaces xs ys
+
+pub record Distance : Type 0 where
+  pub d : ℕ
+  pub n : ℕ
+  pub ratio : Float
+
+-- the single rounded division of both numbers
+unfoldable pub ratioOf : ℕ → ℕ → Float
+ratioOf d n = div binary32 (ofInt binary32 (pos d)) (ofInt binary32 (pos n))
+
+unfoldable pub differingBits : List ℕ → List ℕ → ℕ
+differingBits x y = differingPlaces (bitsOf x) (bitsOf y)
+
+unfoldable pub comparedBits : List ℕ → List ℕ → ℕ
+comparedBits x y = 8 * min (length x) (length y)
+
+-- 18 unless main type (0 to 3) and subtype agree
+unfoldable pub comparable : Item → Item → Bool
+comparable i j = sameType (i .mainType) (j .mainType) && leb (number (i .mainType)) 3 && eqb (i .subtype) (j .subtype)
+
+-- 7, 8, 9, 19 on the first, the same on the second, then 18
+unfoldable pub distance : List ℕ → List ℕ → Answer Distance
+distance x y = do
+  i ← readOne x
+  j ← readOne y
+  comparable i j otherwise noDistance
+  accept
+      (record {
+        d = differingBits (i .body) (j .body);
+        n = comparedBits (i .body) (j .body);
+        ratio = ratioOf (differingBits (i .body) (j .body)) (comparedBits (i .body) (j .body));
+      })
+
+-- a refusal has d 0, n 0 and ratio +0.0
+unfoldable pub distanceAnswer : Answer Distance → Distance
+distanceAnswer (accept r) = r
+distanceAnswer (refuse k) = record { d = 0; n = 0; ratio = fin false 0 (pos 0) }

@@ -1,0 +1,105 @@
+-- Document 01, "Reading text at intake": the text's cleaning, the intake door and the strict door.
+-- Assumes nothing.
+use Prim.Native.Nat.{ℕ, zero, suc, _+_}
+use mathlib.Core.Bool.{Bool, true, false, cond, not, _&&_, _||_}
+use mathlib.Core.List.{List, [], _∷_, _++_, map}
+use lib.ListN.{length, take, drop}
+use lib.Dec.{eqb, leb, ltb}
+use Rattle.iscc.specs.Answer.{Answer, accept, _>>=_, _>>_, _otherwise_}
+use Rattle.iscc.specs.Refusals.{emptyText, longText, longRun, areaTooShort, otherText}
+use Rattle.iscc.specs.Alphabet.{Alphabet, upper, encode, decode}
+use Rattle.iscc.specs.Base32.{base32}
+use Rattle.iscc.specs.Item.{Item, itemBytes, itemOf}
+use Rattle.iscc.specs.Items.{readItems, meaningOfItems}
+use Rattle.iscc.specs.Meaning.{Meaning}
+
+-- space, tab, CR and LF
+unfoldable pub isBlank : ℕ → Bool
+isBlank c = eqb c 32 || eqb c 9 || eqb c 13 || eqb c 10
+
+-- blanks are dropped at both ends only
+unfoldable pub trimStart : List ℕ → List ℕ
+trimStart [] = []
+trimStart (c ∷ cs) = cond (isBlank c) (trimStart cs) (c ∷ cs)
+
+-- a character in front of a trimmed text
+abbrev pub keep : ℕ → List ℕ → List ℕ
+keep c [] = cond (isBlank c) [] (c ∷ [])
+keep c (d ∷ ds) = c ∷ d ∷ ds
+
+unfoldable pub trimEnd : List ℕ → List ℕ
+trimEnd [] = []
+trimEnd (c ∷ cs) = keep c (trimEnd cs)
+
+-- two texts are the same
+unfoldable pub sameText : List ℕ → List ℕ → Bool
+sameText [] [] = true
+sameText [] (d ∷ ds) = false
+sameText (c ∷ cs) [] = false
+sameText (c ∷ cs) (d ∷ ds) = eqb c d && sameText cs ds
+
+-- the five characters ISCC:
+unfoldable pub scheme : List ℕ
+scheme = 73 ∷ 83 ∷ 67 ∷ 67 ∷ 58 ∷ []
+
+-- dropped once if they stand there in any letter case: how many characters that drops
+unfoldable pub schemeLength : List ℕ → ℕ
+schemeLength t = cond (sameText (map upper (take 5 t)) scheme) 5 0
+
+-- all hyphens are dropped
+unfoldable pub dropHyphens : List ℕ → List ℕ
+dropHyphens [] = []
+dropHyphens (c ∷ cs) = cond (eqb c 45) (dropHyphens cs) (c ∷ dropHyphens cs)
+
+unfoldable pub trimmed : List ℕ → List ℕ
+trimmed t = trimEnd (trimStart t)
+
+-- what stands behind the scheme, hyphens too
+unfoldable pub behindScheme : List ℕ → List ℕ
+behindScheme t = drop (schemeLength (trimmed t)) (trimmed t)
+
+unfoldable pub cleaned : List ℕ → List ℕ
+cleaned t = dropHyphens (behindScheme t)
+
+-- a run of at most so many characters of an alphabet: 1, 3, then 4, 5, 6
+unfoldable pub decodeRun : Alphabet → ℕ → List ℕ → Answer (List ℕ)
+decodeRun a most cs = do
+  ltb 0 (length cs) otherwise emptyText
+  leb (length cs) most otherwise longRun
+  decode a cs
+
+-- 2, then 1, 3, 4, 5, 6
+unfoldable pub payload : List ℕ → Answer (List ℕ)
+payload t = do
+  leb (length t) 1024 otherwise longText
+  decodeRun base32 80 (cleaned t)
+
+-- the code that a text holds: its items. 7, 8, 9 for each from the left
+unfoldable pub codeOf : List ℕ → Answer (List Item)
+codeOf t = do
+  bs ← payload t
+  readItems bs
+
+-- what a text means, or the first refusal of those from 2 to 14
+unfoldable pub meaningOfText : List ℕ → Answer Meaning
+meaningOfText t = do
+  is ← codeOf t
+  meaningOfItems is
+
+-- the one text of a meaning: ISCC: and the capital base32 text of the one unit or composite
+unfoldable pub textOf : Meaning → List ℕ
+textOf m = scheme ++ encode base32 (itemBytes (itemOf m))
+
+-- intake, with an output area of so many bytes: the text that it writes
+unfoldable pub intake : List ℕ → ℕ → Answer (List ℕ)
+intake t area = do
+  leb 73 area otherwise areaTooShort
+  m ← meaningOfText t
+  accept (textOf m)
+
+-- the strict door: the meaning of the text that it accepts
+unfoldable pub strict : List ℕ → Answer Meaning
+strict t = do
+  m ← meaningOfText t
+  sameText (textOf m) t otherwise otherText
+  accept m

@@ -1,0 +1,39 @@
+-- The code's types (src/) as forms of the definitions' values. Assumes nothing.
+use Prim.Native.Nat.{ℕ}
+use mathlib.Core.List.{List, _++_, map}
+use lib.ListN.{length, take, replicate}
+use Rattle.iscc.specs.Refusals.{Refusal}
+use Rattle.iscc.specs.Answer.{Answer, accept, refuse}
+use Rattle.iscc.specs.Permitted.{number, unitTypes, unitCount}
+use Rattle.iscc.specs.Permitted as permitted
+use Rattle.iscc.specs.declared.main_type.MainType.{MainType}
+use Rattle.iscc.specs.declared.main_type.Named.{Named}
+use Rattle.iscc.specs.declared.main_type.Named.the-variants as named
+use Rattle.iscc.specs.declared.tables.UnitSet.{UnitSet}
+use Rattle.iscc.specs.declared.written.Written.{Written}
+use Rattle.iscc.specs.declared.written.Written.the-variants.{Length, Refused}
+
+-- a main type in the code is its number
+abbrev pub mainTypeAs : permitted.MainType → MainType
+mainTypeAs m = record { number = number m }
+
+-- a set of units as the code's table has it: filled up to five places
+unfoldable pub unitSetAs : permitted.Set → UnitSet
+unitSetAs s = record { units = take 5 (map mainTypeAs (unitTypes s) ++ replicate 5 (mainTypeAs permitted.ID)); count = unitCount s }
+
+abbrev pub namedAs : Answer permitted.MainType → Named
+namedAs (accept m) = named.MainType (mainTypeAs m)
+namedAs (refuse q) = named.Refused q
+
+-- a writer's answer in the code, and its number and length by document 01
+abbrev pub writtenAs : Answer (List ℕ) → Written
+writtenAs (accept out) = Length (length out)
+writtenAs (refuse q) = Refused q
+
+abbrev pub numberIn : Written → ℕ
+numberIn (Length n) = 0
+numberIn (Refused q) = q .number
+
+abbrev pub lengthIn : Written → ℕ
+lengthIn (Length n) = n
+lengthIn (Refused q) = 0

@@ -1,0 +1,124 @@
+-- One item, a unit or a composite, as bytes: a permitted header and then the body.
+-- Assumes nothing.
+use Prim.Native.Nat.{ℕ, _+_, _-_, _/_}
+use mathlib.Core.Bool.{Bool, true, false, _&&_}
+use mathlib.Core.Option.{Option, none, some}
+use mathlib.Core.List.{List, [], _∷_, _++_}
+use lib.ListN.{length, take, drop}
+use lib.Dec.{leb}
+use Rattle.iscc.specs.Answer.{Answer, accept, _>>=_, _>>_, _otherwise_, into}
+use Rattle.iscc.specs.Refusals.{notPermitted, shortBody, bytesLeftOver}
+use Rattle.iscc.specs.Varnibble.{Parsed}
+use Rattle.iscc.specs.Header.{Header, headerBytes, readHeader}
+use Rattle.iscc.specs.Permitted.{MainType, META, SEMANTIC, CONTENT, DATA, INSTANCE, ISCC, ID, number, mainTypeOf, isUnit, Set, setOf, setNumber, permits, bodyBytes}
+use Rattle.iscc.specs.Meaning.{Meaning, unit, composite, setIn}
+
+pub record Item : Type 0 where
+  pub mainType : MainType
+  pub subtype : ℕ
+  pub version : ℕ
+  pub lengthNo : ℕ
+  pub body : List ℕ
+
+abbrev pub headerOf : Item → Header
+headerOf i = record { mainType = number (i .mainType); subtype = i .subtype; version = i .version; lengthNo = i .lengthNo }
+
+unfoldable pub itemBytes : Item → List ℕ
+itemBytes i = headerBytes (headerOf i) ++ i .body
+
+-- The reader of one unit or composite: 7, 8, 9, else the item and the bytes used. What follows is not its concern.
+unfoldable pub readItem : List ℕ → Answer (Parsed Item)
+readItem bs = do
+  h ← readHeader bs
+  m ← mainTypeOf (h .result .mainType)
+  permits m (h .result .subtype) (h .result .version) (h .result .lengthNo) otherwise notPermitted
+  leb (h .used + bodyBytes m (h .result .subtype) (h .result .lengthNo)) (length bs) otherwise shortBody
+  accept
+      (record {
+        result =
+            record {
+              mainType = m;
+              subtype = h .result .subtype;
+              version = h .result .version;
+              lengthNo = h .result .lengthNo;
+              body = take (bodyBytes m (h .result .subtype) (h .result .lengthNo)) (drop (h .used) bs);
+            };
+        used = h .used + bodyBytes m (h .result .subtype) (h .result .lengthNo);
+      })
+
+-- exactly one: 7, 8, 9, then 19
+unfoldable pub readOne : List ℕ → Answer Item
+readOne bs = do
+  g ← readItem bs
+  leb (length bs) (g .used) otherwise bytesLeftOver
+  accept (g .result)
+
+-- The unit writer: 8 (a composite is not a unit), then 9 (a longer body is cut), then 15.
+unfoldable pub unitBytes : Header → List ℕ → Answer (List ℕ)
+unitBytes h body = do
+  m ← mainTypeOf (h .mainType)
+  (isUnit m && permits m (h .subtype) (h .version) (h .lengthNo)) otherwise notPermitted
+  leb (bodyBytes m (h .subtype) (h .lengthNo)) (length body) otherwise shortBody
+  accept (headerBytes h ++ take (bodyBytes m (h .subtype) (h .lengthNo)) body)
+
+abbrev pub writeUnit : Header → List ℕ → ℕ → Answer (List ℕ)
+writeUnit h body area = into area (unitBytes h body)
+
+-- ---- an item's meaning
+
+-- the next eight bytes if a unit is in, and what follows them
+abbrev pub nextBody : Bool → List ℕ → Option (List ℕ)
+nextBody true bs = some (take 8 bs)
+nextBody false bs = none
+
+abbrev pub behind : Bool → List ℕ → List ℕ
+behind true bs = drop 8 bs
+behind false bs = bs
+
+-- a composite's body holds the bodies of the units in it, in the order META, SEMANTIC, CONTENT, DATA, INSTANCE
+unfoldable pub compositeOf : ℕ → ℕ → Set → List ℕ → Meaning
+compositeOf s v in? bs₀ =
+    let bs₁ : List ℕ = behind (in? .meta) bs₀ in
+    let bs₂ : List ℕ = behind (in? .semantic) bs₁ in
+    let bs₃ : List ℕ = behind (in? .content) bs₂ in
+    composite s v (nextBody (in? .meta) bs₀) (nextBody (in? .semantic) bs₁) (nextBody (in? .content) bs₂) (take 8 bs₃) (drop 8 bs₃)
+
+unfoldable pub meaningAs : MainType → ℕ → ℕ → ℕ → List ℕ → Meaning
+meaningAs META s v l body = unit META s v body
+meaningAs SEMANTIC s v l body = unit SEMANTIC s v body
+meaningAs CONTENT s v l body = unit CONTENT s v body
+meaningAs DATA s v l body = unit DATA s v body
+meaningAs INSTANCE s v l body = unit INSTANCE s v body
+meaningAs ISCC s v l body = compositeOf s v (setOf l) body
+meaningAs ID s v l body = unit ID s v body
+
+abbrev pub meaningOf : Item → Meaning
+meaningOf i = meaningAs (i .mainType) (i .subtype) (i .version) (i .lengthNo) (i .body)
+
+-- ---- the one item that has a meaning
+
+-- the length number of a unit's body of n bytes
+unfoldable pub lengthNoOf : MainType → ℕ → ℕ
+lengthNoOf META n = n / 4 - 1
+lengthNoOf SEMANTIC n = n / 4 - 1
+lengthNoOf CONTENT n = n / 4 - 1
+lengthNoOf DATA n = n / 4 - 1
+lengthNoOf INSTANCE n = n / 4 - 1
+lengthNoOf ISCC n = 0
+lengthNoOf ID n = n - 8
+
+abbrev pub bytesIn : Option (List ℕ) → List ℕ
+bytesIn none = []
+bytesIn (some body) = body
+
+unfoldable pub itemOf : Meaning → Item
+itemOf (unit m s v body) =
+    record { mainType = m; subtype = s; version = v; lengthNo = lengthNoOf m (length body); body = body }
+itemOf (composite s v me se co da ins) =
+    record {
+      mainType = ISCC;
+      subtype = s;
+      version = v;
+      lengthNo = setNumber (setIn me se co);
+      body = bytesIn me ++ bytesIn se ++ bytesIn co ++ da ++ ins;
+    }

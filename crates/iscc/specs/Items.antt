@@ -1,0 +1,141 @@
+-- Items laid end to end: read from the left until no byte remains; joinedBytes to one composite; split from one.
+-- Assumes nothing.
+use Rattle.iscc.specs.Lists.{every, pairwise}
+use Prim.Native.Nat.{ℕ, zero, suc, _+_}
+use mathlib.Core.Bool.{Bool, true, false, cond, not, _&&_, _||_}
+use mathlib.Core.Option.{Option, none, some}
+use mathlib.Core.List.{List, [], _∷_, _++_}
+use lib.ListN.{length, drop}
+use lib.Dec.{eqb, leb}
+use Rattle.iscc.specs.Answer.{Answer, accept, refuse, _>>=_, _>>_, _otherwise_, into}
+use Rattle.iscc.specs.Refusals.{Refusal, badHeader, notPermitted, notJoinable, not64Bits, mainTypeTwice, lacksDataOrInstance, subtypesDiffer}
+use Rattle.iscc.specs.Permitted.{MainType, META, SEMANTIC, CONTENT, DATA, INSTANCE, ISCC, ID, number}
+use Rattle.iscc.specs.Meaning.{Meaning, unit, composite, isIn}
+use Rattle.iscc.specs.Item.{Item, itemBytes, itemOf, readItem, readOne, meaningOf}
+
+-- ---- reading a list: 7, 8, 9 for each item from the left, all of one item before the next. No bytes are 7.
+
+-- the count n of items is a bound that the bytes' length keeps from running out
+unfoldable pub readUpTo : ℕ → List ℕ → Answer (List Item)
+readUpTo zero bs = refuse badHeader
+readUpTo (suc n) bs = do
+  g ← readItem bs
+  cond (leb (length bs) (g .used)) (accept (g .result ∷ []))
+      (readUpTo n (drop (g .used) bs) >>= λ is. accept (g .result ∷ is))
+
+unfoldable pub readItems : List ℕ → Answer (List Item)
+readItems bs = readUpTo (suc (length bs)) bs
+
+-- ---- the tests of a list of two or more
+
+abbrev pub sameType : MainType → MainType → Bool
+sameType a b = eqb (number a) (number b)
+
+-- 10: no composite, and no ID
+abbrev pub joinable : Item → Bool
+joinable i = not (sameType (i .mainType) ISCC || sameType (i .mainType) ID)
+
+-- 11: 64 bits
+abbrev pub is64Bits : Item → Bool
+is64Bits i = eqb (length (i .body)) 8
+
+-- 12: no main type twice
+abbrev pub otherType : Item → Item → Bool
+otherType i j = not (sameType (i .mainType) (j .mainType))
+
+-- 14: SEMANTIC and CONTENT, where both are in, share their subtype
+abbrev pub hasSubtype : Item → Bool
+hasSubtype i = sameType (i .mainType) SEMANTIC || sameType (i .mainType) CONTENT
+
+abbrev pub sharedSubtype : Item → Item → Bool
+sharedSubtype i j = not (hasSubtype i && hasSubtype j) || eqb (i .subtype) (j .subtype)
+
+-- the body and the subtype of the first unit of a main type
+unfoldable pub bodyIn : MainType → List Item → Option (List ℕ)
+bodyIn m [] = none
+bodyIn m (i ∷ is) = cond (sameType m (i .mainType)) (some (i .body)) (bodyIn m is)
+
+unfoldable pub subtypeIn : MainType → List Item → ℕ
+subtypeIn m [] = 0
+subtypeIn m (i ∷ is) = cond (sameType m (i .mainType)) (i .subtype) (subtypeIn m is)
+
+abbrev pub has : MainType → List Item → Bool
+has m is = isIn (bodyIn m is)
+
+-- the composite's subtype: 5 with neither, 6 with META alone, and otherwise what SEMANTIC and CONTENT share
+unfoldable pub subtypeOf : List Item → ℕ
+subtypeOf is =
+    cond (has SEMANTIC is) (subtypeIn SEMANTIC is)
+    (cond (has CONTENT is) (subtypeIn CONTENT is)
+    (cond (has META is) 6 5))
+
+-- DATA's and INSTANCE's bodies, or 13
+unfoldable pub orMissing : Refusal → Option (List ℕ) → Answer (List ℕ)
+orMissing r none = refuse r
+orMissing r (some body) = accept body
+
+abbrev pub requiredBody : MainType → List Item → Answer (List ℕ)
+requiredBody m is = orMissing lacksDataOrInstance (bodyIn m is)
+
+unfoldable pub compositeFrom : List Item → Answer Meaning
+compositeFrom is = do
+  every joinable is otherwise notJoinable
+  every is64Bits is otherwise not64Bits
+  pairwise otherType is otherwise mainTypeTwice
+  da ← requiredBody DATA is
+  ins ← requiredBody INSTANCE is
+  pairwise sharedSubtype is otherwise subtypesDiffer
+  accept (composite (subtypeOf is) 0 (bodyIn META is) (bodyIn SEMANTIC is) (bodyIn CONTENT is) da ins)
+
+-- ---- what a list of items means: one item itself, two or more the composite that they make
+
+unfoldable pub meaningOfItems : List Item → Answer Meaning
+meaningOfItems [] = refuse badHeader
+meaningOfItems (i ∷ []) = accept (meaningOf i)
+meaningOfItems (i ∷ j ∷ is) = compositeFrom (i ∷ j ∷ is)
+
+-- ---- join: of one item 10 or 13, of more 10 to 14; then 15
+
+unfoldable pub joinedMeaning : List Item → Answer Meaning
+joinedMeaning [] = refuse badHeader
+joinedMeaning (i ∷ []) = do
+  joinable i otherwise notJoinable
+  refuse lacksDataOrInstance
+joinedMeaning (i ∷ j ∷ is) = compositeFrom (i ∷ j ∷ is)
+
+unfoldable pub joinedBytes : List ℕ → Answer (List ℕ)
+joinedBytes bs = do
+  is ← readItems bs
+  m ← joinedMeaning is
+  accept (itemBytes (itemOf m))
+
+abbrev pub join : List ℕ → ℕ → Answer (List ℕ)
+join bs area = into area (joinedBytes bs)
+
+-- ---- split: 7, 8, 9, 19, then 8 for anything but a composite, then 15
+
+-- a unit of 64 bits
+abbrev pub unit64 : MainType → ℕ → List ℕ → Item
+unit64 m s body = record { mainType = m; subtype = s; version = 0; lengthNo = 1; body = body }
+
+abbrev pub unitIn : MainType → ℕ → Option (List ℕ) → List Item
+unitIn m s none = []
+unitIn m s (some body) = unit64 m s body ∷ []
+
+unfoldable pub unitsOf : Meaning → Answer (List Item)
+unitsOf (unit m s v body) = refuse notPermitted
+unitsOf (composite s v me se co da ins) =
+    accept (unitIn META 0 me ++ unitIn SEMANTIC s se ++ unitIn CONTENT s co ++ (unit64 DATA 0 da ∷ unit64 INSTANCE 0 ins ∷ []))
+
+unfoldable pub itemsBytes : List Item → List ℕ
+itemsBytes [] = []
+itemsBytes (i ∷ is) = itemBytes i ++ itemsBytes is
+
+unfoldable pub splitBytes : List ℕ → Answer (List ℕ)
+splitBytes bs = do
+  i ← readOne bs
+  is ← unitsOf (meaningOf i)
+  accept (itemsBytes is)
+
+abbrev pub split : List ℕ → ℕ → Answer (List ℕ)
+split bs area = into area (splitBytes bs)

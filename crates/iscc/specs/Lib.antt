@@ -1,0 +1,19 @@
+-- Document 01 as definitions, in its order.
+pub mod Refusals
+pub mod Answer
+pub mod Lists
+pub mod Digits
+pub mod Alphabet
+pub mod Base32
+pub mod Varnibble
+pub mod Header
+pub mod Permitted
+pub mod Meaning
+pub mod Item
+pub mod Items
+pub mod Doors
+pub mod Tests
+pub mod Distance
+pub mod Lines
+pub mod Forms
+pub mod Labels

@@ -1,0 +1,117 @@
+// The two constant tables of document 01: the base32 alphabet and the eight sets of units in a composite.
+ghost use mathlib.Core.Path.{_≡_};
+ghost use Prim.Native.Nat.{_%_, _≤_};
+ghost use Rattle.iscc.specs.Alphabet.{charIn};
+ghost use Rattle.iscc.specs.Base32.{base32};
+ghost use Rattle.iscc.specs.Permitted.{setOf};
+ghost use Rattle.iscc.specs.Forms.{unitSetAs};
+use crate::main_type::MainType;
+
+const ALPHABET: [u8; 32] = *b"ABCDEFGHIJKLMNOPQRSTUVWXYZ234567";
+
+// The character of a digit; a larger number counts by its last five bits.
+pub fn letter(digit: usize) -> u8
+    ensures { λ r. ⌜ r ≡ charIn base32 (digit % 32) ⌝ }
+{
+    ALPHABET[digit % 32]
+}
+
+// The main types of the units in a composite, in their order, then ID as filling; and how many bodies it has.
+pub struct UnitSet {
+    pub units: [MainType; 5],
+    pub count: usize,
+}
+
+// By the composite's length number: 4 if META is in, plus 2 if SEMANTIC is in, plus 1 if CONTENT is in.
+const SETS: [UnitSet; 8] = [
+    UnitSet {
+        units: [
+            MainType::DATA,
+            MainType::INSTANCE,
+            MainType::ID,
+            MainType::ID,
+            MainType::ID,
+        ],
+        count: 2,
+    },
+    UnitSet {
+        units: [
+            MainType::CONTENT,
+            MainType::DATA,
+            MainType::INSTANCE,
+            MainType::ID,
+            MainType::ID,
+        ],
+        count: 3,
+    },
+    UnitSet {
+        units: [
+            MainType::SEMANTIC,
+            MainType::DATA,
+            MainType::INSTANCE,
+            MainType::ID,
+            MainType::ID,
+        ],
+        count: 3,
+    },
+    UnitSet {
+        units: [
+            MainType::SEMANTIC,
+            MainType::CONTENT,
+            MainType::DATA,
+            MainType::INSTANCE,
+            MainType::ID,
+        ],
+        count: 4,
+    },
+    UnitSet {
+        units: [
+            MainType::META,
+            MainType::DATA,
+            MainType::INSTANCE,
+            MainType::ID,
+            MainType::ID,
+        ],
+        count: 3,
+    },
+    UnitSet {
+        units: [
+            MainType::META,
+            MainType::CONTENT,
+            MainType::DATA,
+            MainType::INSTANCE,
+            MainType::ID,
+        ],
+        count: 4,
+    },
+    UnitSet {
+        units: [
+            MainType::META,
+            MainType::SEMANTIC,
+            MainType::DATA,
+            MainType::INSTANCE,
+            MainType::ID,
+        ],
+        count: 4,
+    },
+    UnitSet {
+        units: [
+            MainType::META,
+            MainType::SEMANTIC,
+            MainType::CONTENT,
+            MainType::DATA,
+            MainType::INSTANCE,
+        ],
+        count: 5,
+    },
+];
+
+// The units of a composite by its length number; of a number that is none, those of 0.
+pub fn unit_set(length: usize) -> UnitSet
+    ensures { λ r. ⌜ (r ≡ unitSetAs (setOf length)) × (r .count ≤ 5) ⌝ }
+{
+    if length < 8 {
+        return SETS[length];
+    }
+    SETS[0]
+}
