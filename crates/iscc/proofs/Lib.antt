@@ -19,3 +19,4 @@ pub mod Area
 pub mod Demand3
 pub mod Doors
 pub mod Tests
+pub mod Labels

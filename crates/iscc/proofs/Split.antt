@@ -1,4 +1,4 @@
--- A composite split into its units, and joinedBytes again. Assumes nothing.
+-- A composite split into its units, and joined again. Assumes nothing.
 use Prim.Native.Nat.{ℕ, zero, suc, _+_, _-_, _*_, _≤_, _<_}
 use mathlib.Core.Path.{_≡_, refl, sym, _∙_, ap, subst}
 use mathlib.Core.Bool.{Bool, true, false, not, cond, _&&_, _||_, false≢true}
@@ -64,7 +64,7 @@ subtype-is true false false s e =
 subtype-is false false false s e =
     record { semantic = λ z. absurd (false≢true z); content = λ z. absurd (false≢true z); is = eqb-true s 5 e }
 
--- ---- joinedBytes again, the units make the composite
+-- ---- joined again, the units make the composite
 
 module _ (s : ℕ) (da ins : List ℕ) (zd : Sized 8 da) (zi : Sized 8 ins) where
   units-make : (me se co : Option (List ℕ)) → Eight me → Eight se → Eight co → SubtypeIs (isIn me) (isIn se) (isIn co) s
@@ -117,7 +117,7 @@ two-units : (s : ℕ) (me se co : Option (List ℕ)) (da ins : List ℕ) → 2 �
 two-units s me se co da ins = simp length-append (omega arith)
 
 -- A permitted composite's bytes: split writes its units, in the composite's own order; they are read one by one as they went
--- in; and joinedBytes they are the composite's bytes again.
+-- in; and joined they are the composite's bytes again.
 pub record Splits (s v : ℕ) (me se co : Option (List ℕ)) (da ins : List ℕ) : Type 0 where
   pub parts : splitBytes (itemBytes (itemOf (composite s v me se co da ins))) ≡ accept (itemsBytes (unitsIn s me se co da ins))
   pub read : readItems (itemsBytes (unitsIn s me se co da ins)) ≡ accept (unitsIn s me se co da ins)

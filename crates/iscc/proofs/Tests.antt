@@ -110,7 +110,7 @@ module _ {A : Type 0} (p : A → Bool) where
           from (suc j) l = ih f .0 j (le-of-suc-le-suc l)
       go false q f ih = ((λ j l. absurd (not-suc-le-zero l)), q)
 
--- ---- the first element that does not go with one before result
+-- ---- the first element that does not go with one before it
 
 and-one : (a : Bool) → a && true ≡ a
 and-one true = refl

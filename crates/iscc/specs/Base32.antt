@@ -1,4 +1,4 @@
--- Base32 of RFC 4648, section 6: capitals are written, eitherCase case is read, and there is no padding.
+-- Base32 of RFC 4648, section 6: capitals are written, either case is read, and there is no padding.
 -- Assumes nothing.
 use Prim.Native.Nat.{ℕ}
 use mathlib.Core.Bool.{true}

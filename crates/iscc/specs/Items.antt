@@ -1,4 +1,4 @@
--- Items laid end to end: read from the left until no byte remains; joinedBytes to one composite; split from one.
+-- Items laid end to end: read from the left until no byte remains; joined to one composite; split from one.
 -- Assumes nothing.
 use Rattle.iscc.specs.Lists.{every, pairwise}
 use Prim.Native.Nat.{ℕ, zero, suc, _+_}

@@ -1,4 +1,4 @@
--- Document 01, "The line lineProgram": what it writes for what it reads.
+-- Document 01, "The line program": what it writes for what it reads.
 -- Assumes nothing.
 use Prim.Native.Nat.{ℕ, _+_, _/_, _%_}
 use mathlib.Core.Bool.{Bool, true, false, cond}

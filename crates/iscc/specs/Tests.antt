@@ -120,7 +120,7 @@ itemStage bs =
 abbrev pub itemAt : (Item → Bool) → List Item → ℕ → Bool
 itemAt p is j = headHolds p (drop j is)
 
--- the item at index j goes with each before result
+-- the item at index j goes with each before it
 abbrev pub clearAt : (Item → Item → Bool) → List Item → ℕ → Bool
 clearAt r is j = headHolds (λ x. every (λ e. r e x) (take j is)) (drop j is)
 

@@ -1,0 +1,57 @@
+-- The labels of document 01 hold, by computation. Assumes nothing.
+use mathlib.Core.Path.{refl}
+use Rattle.iscc.specs.Lists.{every, pairwise}
+use Rattle.iscc.specs.Digits.{digits, value, allBelow, digitCount, toDigits, byteCount, spareCount, fromDigits}
+use Rattle.iscc.specs.Alphabet.{upper, indexOf, charIn, digitIn, encode, decode}
+use Rattle.iscc.specs.Base32.{base32}
+use Rattle.iscc.specs.Varnibble.{firstOf, prefixOf, rowOf, rowBy, varnibble, writeVarnibble, readVarnibble}
+use Rattle.iscc.specs.Header.{nibbles, packed, headerBytes, rawHeader, readHeader}
+use Rattle.iscc.specs.Permitted.{typeOf, mainTypeOf, sets, setOf, compositeSubtype, row, bodyBytes}
+use Rattle.iscc.specs.Item.{itemBytes, readItem, readOne, compositeOf, meaningAs, lengthNoOf, itemOf}
+use Rattle.iscc.specs.Items.{readUpTo, readItems, bodyIn, subtypeIn, subtypeOf, orMissing, compositeFrom, meaningOfItems}
+use Rattle.iscc.specs.Doors.{isBlank, trimStart, trimEnd, sameText, scheme, schemeLength, dropHyphens, trimmed, behindScheme, cleaned, decodeRun, payload, codeOf, meaningOfText, textOf, intake}
+use Rattle.iscc.specs.Distance.{bitsOf, differingPlaces, ratioOf, differingBits, comparedBits, comparable, distance}
+use Rattle.iscc.specs.Lines.{linesOf, decimal, lineAnswer, lineAnswers, lineProgram}
+use Rattle.iscc.specs.Labels.{charactersFrom, ascii, StarredLabels, OtherLabels}
+use lib.Ieee.{ofInt, div}
+
+pub starred : StarredLabels
+unfolding charactersFrom ascii digits value allBelow digitCount toDigits byteCount spareCount fromDigits upper indexOf charIn digitIn encode decode base32 firstOf prefixOf rowOf rowBy varnibble writeVarnibble readVarnibble nibbles packed headerBytes rawHeader readHeader typeOf mainTypeOf sets setOf compositeSubtype row bodyBytes itemBytes readItem readOne compositeOf meaningAs lengthNoOf itemOf readUpTo readItems every pairwise bodyIn subtypeIn subtypeOf orMissing compositeFrom meaningOfItems isBlank trimStart trimEnd sameText scheme schemeLength dropHyphens trimmed behindScheme cleaned decodeRun payload codeOf meaningOfText textOf intake bitsOf differingPlaces ratioOf differingBits comparedBits comparable distance ofInt div
+starred =
+    record {
+      number7 = refl;
+      number8 = refl;
+      number71 = refl;
+      number72 = refl;
+      number583 = refl;
+      number584 = refl;
+      number4679 = refl;
+      number4680 = refl;
+      header5500 = refl;
+      header8000 = refl;
+      padNotZero = refl;
+      firstLine = refl;
+      swapped = refl;
+      alone = refl;
+      twice = refl;
+      nine = refl;
+    }
+
+pub others : OtherLabels
+unfolding charactersFrom ascii digits value allBelow digitCount toDigits byteCount spareCount fromDigits upper indexOf charIn digitIn encode decode base32 firstOf prefixOf rowOf rowBy varnibble readVarnibble nibbles packed headerBytes readHeader typeOf mainTypeOf sets setOf compositeSubtype row bodyBytes itemBytes readItem compositeOf meaningAs lengthNoOf itemOf readUpTo readItems every pairwise bodyIn subtypeIn subtypeOf orMissing compositeFrom meaningOfItems isBlank trimStart trimEnd sameText scheme schemeLength dropHyphens trimmed behindScheme cleaned decodeRun payload codeOf meaningOfText textOf intake linesOf decimal lineAnswer lineAnswers lineProgram
+others =
+    record {
+      noColon = refl;
+      ab = refl;
+      a = refl;
+      a1 = refl;
+      aa = refl;
+      withId = refl;
+      header5700 = refl;
+      schemeAlone = refl;
+      hyphenAlone = refl;
+      threeSpaces = refl;
+      sizes = refl;
+      characters = refl;
+      lineCase = refl;
+    }
