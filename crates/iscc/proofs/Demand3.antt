@@ -16,12 +16,14 @@ use borrow.Author.Tests.{le-leb, eqb-true, eq-eqb}
 use Rattle.iscc.specs.Answer.{accept, _>>=_, _>>_, _otherwise_, areaAfter, written}
 use Rattle.iscc.specs.Refusals.{otherText}
 use Rattle.iscc.specs.Meaning.{Meaning, Permitted}
-use Rattle.iscc.specs.Doors.{sameText, meaningOfText, textOf, intake, strict}
+use Rattle.iscc.specs.Item.{Item, itemBytes, itemOf}
+use Rattle.iscc.specs.Alphabet.{encode}
+use Rattle.iscc.specs.Base32.{base32}
+use Rattle.iscc.specs.Items.{Reordered, meaningOfItems}
+use Rattle.iscc.specs.Demands.{Demand3}
+use Rattle.iscc.proofs.Order.{means-same}
+use Rattle.iscc.specs.Doors.{scheme, sameText, meaningOfText, codeOf, textOf, intake, writtenText, strict}
 use Rattle.iscc.proofs.Answer.{Accepted, accepted, value-of, passed, answered}
-
--- the text that intake writes to an area: the area's first bytes afterwards, as many as intake answers
-unfoldable pub writtenText : List ℕ → List ℕ → List ℕ
-writtenText t area = take (written (intake t (length area))) (areaAfter (intake t (length area)) area)
 
 -- ---- the comparison of texts
 
@@ -79,21 +81,13 @@ strict-means t m e =
 
 -- ---- demand 3
 
-pub record Demand3 : Type 1 where
-  -- two texts that intake accepts: the written texts are equal exactly when the codes mean the same
-  pub equal : (t u a b : List ℕ) → 73 ≤ length a → 73 ≤ length b → (m k : Meaning) → meaningOfText t ≡ accept m → meaningOfText u ≡ accept k
-      → (writtenText t a ≡ writtenText u b) ↔ (m ≡ k)
-  -- intake accepts exactly the texts that have a meaning
-  pub accepts : (t a : List ℕ) → 73 ≤ length a → Accepted (intake t (length a)) ↔ Accepted (meaningOfText t)
-  -- the strict door accepts exactly what intake accepts and writes back
-  pub strictly : (t : List ℕ) → Accepted (strict t) ↔ ((a : List ℕ) → 73 ≤ length a → Accepted (intake t (length a)) × (writtenText t a ≡ t))
-  -- every permitted meaning has one strict text, and no second; intake writes it for every text with that meaning
-  pub one : (m : Meaning) → Permitted m
-      → (strict (textOf m) ≡ accept m)
-      × ((t : List ℕ) → strict t ≡ accept m → t ≡ textOf m)
-      × ((t a : List ℕ) → 73 ≤ length a → meaningOfText t ≡ accept m → writtenText t a ≡ textOf m)
-  -- what intake writes is the text of a permitted meaning, and fits the area
-  pub writes : (t : List ℕ) (m : Meaning) → meaningOfText t ≡ accept m → Permitted m × (length (textOf m) ≤ 73)
+spelled : (m : Meaning) → textOf m ≡ scheme ++ encode base32 (itemBytes (itemOf m))
+unfolding textOf
+spelled m = refl
+
+reordered : (t u : List ℕ) (is js : List Item) (area : ℕ) → codeOf t ≡ accept is → codeOf u ≡ accept js → Reordered is js → intake t area ≡ intake u area
+unfolding intake meaningOfText
+reordered t u is js area e f r = rw (e, f, means-same r)
 
 module _ (meant : (t : List ℕ) (m : Meaning) → meaningOfText t ≡ accept m → Permitted m)
     (back : (m : Meaning) → Permitted m → meaningOfText (textOf m) ≡ accept m)
@@ -137,6 +131,10 @@ module _ (meant : (t : List ℕ) (m : Meaning) → meaningOfText t ≡ accept m 
         equal = equal′;
         accepts = accepts′;
         strictly = strictly′;
-        one = λ m p. (strict-of (textOf m) m (back m p) refl, (λ t e. sym (strict-means t m e .1)), λ t a w e. written-of t m a w e);
-        writes = λ t m e. (meant t m e, short m (meant t m e));
+        one = λ m p. strict-of (textOf m) m (back m p) refl;
+        noSecond = λ m t e. sym (strict-means t m e .1);
+        written = λ m t a w e. written-of t m a w e;
+        spelling = spelled;
+        short = λ t m e. (meant t m e, short m (meant t m e));
+        anyOrder = reordered;
       }

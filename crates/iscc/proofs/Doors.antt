@@ -24,7 +24,8 @@ use Rattle.iscc.proofs.Base32.{sound32}
 use Rattle.iscc.proofs.Item.{PermittedItem, length-item, item-most, item-below}
 use Rattle.iscc.proofs.Meaning.{meaning-back, item-permitted}
 use Rattle.iscc.proofs.Items.{items-read, means-permitted, read-items}
-use Rattle.iscc.proofs.Demand3.{Demand3, demand3-from}
+use Rattle.iscc.specs.Demands.{Demand3}
+use Rattle.iscc.proofs.Demand3.{demand3-from}
 
 -- ---- A: what a text means is permitted
 

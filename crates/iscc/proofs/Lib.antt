@@ -19,4 +19,6 @@ pub mod Area
 pub mod Demand3
 pub mod Doors
 pub mod Tests
+pub mod CallTests
+pub mod Exactly
 pub mod Labels

@@ -6,22 +6,16 @@ use mathlib.Core.Option.{Option, none, some}
 use mathlib.Core.List.{List, [], _∷_, _++_}
 use native.Mathlib.Decide.{ℕ-discrete}
 use native.Mathlib.Omega.{arith}
+use lib.ListN.{length}
 use lib.Dec.{eqb}
 use borrow.Author.Tests.{eqb-true, eq-eqb, ne-eqb}
 use Rattle.iscc.specs.Answer.{_>>=_, _>>_, _otherwise_}
 use Rattle.iscc.specs.Permitted.{MainType, META, SEMANTIC, CONTENT, DATA, INSTANCE, number}
 use Rattle.iscc.specs.Item.{Item}
 use Rattle.iscc.specs.Lists.{every, pairwise}
-use Rattle.iscc.specs.Items.{sameType, joinable, is64Bits, otherType, hasSubtype, sharedSubtype, bodyIn, subtypeIn, has, subtypeOf, compositeFrom, meaningOfItems}
+use Rattle.iscc.specs.Items.{sameType, joinable, is64Bits, otherType, hasSubtype, sharedSubtype, bodyIn, subtypeIn, has, subtypeOf, compositeFrom, meaningOfItems, Reordered, nil, keep, swap, then}
 use Rattle.iscc.proofs.Digits.{and-true}
 use Rattle.iscc.proofs.Items.{sameType-eq}
-
--- the same items in another order
-pub data Reordered : List Item → List Item → Type 0 where
-  nil : Reordered [] []
-  keep : (i : Item) {is js : List Item} → Reordered is js → Reordered (i ∷ is) (i ∷ js)
-  swap : (i j : Item) (is : List Item) → Reordered (i ∷ j ∷ is) (j ∷ i ∷ is)
-  then : {is js ks : List Item} → Reordered is js → Reordered js ks → Reordered is ks
 
 and-swap : (a b c : Bool) → a && (b && c) ≡ b && (a && c)
 and-swap true b c = refl
@@ -123,7 +117,23 @@ composed-same {is} {js} r = go (distinct is) refl
         let d′ : distinct js ≡ false = sym (distinct-same r) ∙ d in
         rw (every-same joinable r, every-same is64Bits r, d, d′)
 
--- a list of two or more means the same whatever its order
-pub means-same : {is js : List Item} → Reordered is js → (i j k l : Item) (is′ js′ : List Item) → is ≡ i ∷ j ∷ is′ → js ≡ k ∷ l ∷ js′ → meaningOfItems is ≡ meaningOfItems js
+length-same : {is js : List Item} → Reordered is js → length is ≡ length js
+length-same nil = refl
+length-same (keep i r) = ap suc (length-same r)
+length-same (swap i j is) = refl
+length-same (then r q) = length-same r ∙ length-same q
+
+kept-means : (i : Item) (is js : List Item) → Reordered is js → meaningOfItems (i ∷ is) ≡ meaningOfItems (i ∷ js)
 unfolding meaningOfItems
-means-same r i j k l is′ js′ e f = rw (e, f) (rw (e, f) at (composed-same r))
+kept-means i [] [] r = refl
+kept-means i [] (k ∷ js) r = let l : 0 ≡ suc (length js) = length-same r in absurd (omega arith)
+kept-means i (j ∷ is) [] r = let l : suc (length is) ≡ 0 = length-same r in absurd (omega arith)
+kept-means i (j ∷ is) (k ∷ js) r = composed-same (keep i r)
+
+-- what a list means, or the refusal, is the same whatever its order
+pub means-same : {is js : List Item} → Reordered is js → meaningOfItems is ≡ meaningOfItems js
+unfolding meaningOfItems
+means-same nil = refl
+means-same (keep i {is} {js} r) = kept-means i is js r
+means-same (swap i j is) = composed-same (swap i j is)
+means-same (then r q) = means-same r ∙ means-same q

@@ -30,9 +30,14 @@ use Rattle.iscc.specs.Refusals.{Refusal, badHeader, lacksDataOrInstance,
 use Rattle.iscc.specs.Answer.{Answer, accept, refuse, _>>=_, _>>_, _otherwise_, into}
 use Rattle.iscc.specs.Digits.{Below, fromDigits, allBelow, spareCount, value}
 use Rattle.iscc.specs.Lists.{every, pairwise, firstNot, firstClash}
-use Rattle.iscc.specs.Tests.{Rule, HoldAt, BrokenAt, First, AllHold, By, rule, once, headHolds, meaningStages, present, listStages, clearAt, itemTest, itemStage, headerReads, headerPermitted, bodyThere, digitStages, runStages, doorStages, strictStages, intakeStages, textStages, orNone, joinAllStages, readStages, joinStages, after, itemAt}
+use Rattle.iscc.specs.Tests.{Rule, HoldAt, BrokenAt, First, AllHold, rule, once, headHolds, meaningStages, present, listStages, clearAt, itemTest, itemStage, headerReads, headerPermitted, bodyThere, digitStages, runStages, doorStages, strictStages, intakeStages, textStages, orNone, joinAllStages, readStages, joinStages, after, itemAt}
 
 -- ---- how the answers of a definition's steps make the whole's
+
+-- one direction of `Exactly`, which the steps carry on: an answer accepts where all of them hold, and refuses for the first that does not, at some place
+pub record By {A : Type 0} (ss : List (List Rule)) (x : Answer A) : Type 0 where
+  pub accepted : (a : A) → x ≡ accept a → AllHold ss
+  pub refused : (q : Refusal) → x ≡ refuse q → (k : ℕ) × First ss (q .number) k
 
 pub refusing : {A : Type 0} (n : Refusal) (k : ℕ) (s : List Rule) (ss : List (List Rule))
     → ((j : ℕ) → j < k → HoldAt s j) × BrokenAt s (n .number) k → By {A = A} (s ∷ ss) (refuse n)
@@ -204,7 +209,7 @@ module _ {A : Type 0} (r : A → A → Bool) where
 
 -- ---- a list's tests: 10 to 14
 
-step-every : {A B : Type 0} (p : A → Bool) (xs : List A) (n : Refusal) (x : Answer B) (ss : List (List Rule)) → By ss x
+pub step-every : {A B : Type 0} (p : A → Bool) (xs : List A) (n : Refusal) (x : Answer B) (ss : List (List Rule)) → By ss x
     → By (rule n (λ j. headHolds p (drop j xs)) ∷ ss) (every p xs otherwise n >> x)
 step-every p xs n x ss y =
     step (every p xs) n (firstNot p xs) x (rule n (λ j. headHolds p (drop j xs))) ss (λ e j. (every-holds p xs e j, tt))
@@ -282,7 +287,7 @@ varnibble-only ns =
     only-test 7 (ltb 0 (length ns)) badHeader _ refl
     (only-test 7 (ltb (getD ns 0 0) 15) badHeader _ refl (only-test 7 (leb (rowBy (getD ns 0 0)) (length ns)) badHeader _ refl (only-accept 7 _)))
 
-header-only : (bs : List ℕ) → Only 7 (readHeader bs)
+pub header-only : (bs : List ℕ) → Only 7 (readHeader bs)
 unfolding readHeader
 header-only bs =
     only-bind 7 (readVarnibble (nibbles bs)) _ (varnibble-only (nibbles bs))
@@ -339,7 +344,7 @@ header-refuses : (bs : List ℕ) (r : Refusal) → readHeader bs ≡ refuse r �
 unfolding readItem
 header-refuses bs r e = rw e
 
-item-broken : (bs : List ℕ) (q : Refusal) → readItem bs ≡ refuse q → BrokenAt (itemStage bs) (q .number) 0
+pub item-broken : (bs : List ℕ) (q : Refusal) → readItem bs ≡ refuse q → BrokenAt (itemStage bs) (q .number) 0
 unfolding itemTest
 item-broken bs q e = go (readHeader bs) refl
   where
@@ -350,7 +355,7 @@ item-broken bs q e = go (readHeader bs) refl
     go (accept h) w =
         inr (rw w, rw w (three-refused _ (ltb (h .result .mainType) 7) (permits (typeOf (h .result .mainType)) (h .result .subtype) (h .result .version) (h .result .lengthNo)) (leb (h .used + bodyBytes (typeOf (h .result .mainType)) (h .result .subtype) (h .result .lengthNo)) (length bs)) q (sym (item-further bs h w) ∙ e)))
 
-item-holds : (bs : List ℕ) (g : Parsed Item) → readItem bs ≡ accept g → HoldAt (itemStage bs) 0
+pub item-holds : (bs : List ℕ) (g : Parsed Item) → readItem bs ≡ accept g → HoldAt (itemStage bs) 0
 unfolding itemTest
 item-holds bs g e = go (readHeader bs) refl
   where
@@ -524,7 +529,7 @@ strict-by t =
 
 -- ---- the base32 reader by itself, and join
 
-into-by : (x : Answer (List ℕ)) (area : ℕ) (ss : List (List Rule)) → By ss x
+pub into-by : (x : Answer (List ℕ)) (area : ℕ) (ss : List (List Rule)) → By ss x
     → By (ss ++ (once areaTooShort (after x (λ out. leb (length out) area)) ∷ [])) (into area x)
 into-by x area ss y =
     after-part ss _ x (λ out. leb (length out) area otherwise areaTooShort >> accept out) y

@@ -5,7 +5,7 @@ use mathlib.Core.Bool.{Bool, true, false, cond, not, _&&_, _||_}
 use mathlib.Core.List.{List, [], _∷_, _++_, map}
 use lib.ListN.{length, take, drop}
 use lib.Dec.{eqb, leb, ltb}
-use Rattle.iscc.specs.Answer.{Answer, accept, _>>=_, _>>_, _otherwise_}
+use Rattle.iscc.specs.Answer.{Answer, accept, _>>=_, _>>_, _otherwise_, areaAfter, written}
 use Rattle.iscc.specs.Refusals.{emptyText, longText, longRun, areaTooShort, otherText}
 use Rattle.iscc.specs.Alphabet.{Alphabet, upper, encode, decode}
 use Rattle.iscc.specs.Base32.{base32}
@@ -96,6 +96,10 @@ intake t area = do
   leb 73 area otherwise areaTooShort
   m ← meaningOfText t
   accept (textOf m)
+
+-- "The written text is the first bytes of the output area, as many as intake answers."
+unfoldable pub writtenText : List ℕ → List ℕ → List ℕ
+writtenText t area = take (written (intake t (length area))) (areaAfter (intake t (length area)) area)
 
 -- the strict door: the meaning of the text that it accepts
 unfoldable pub strict : List ℕ → Answer Meaning

@@ -94,6 +94,13 @@ meaningOfItems [] = refuse badHeader
 meaningOfItems (i ∷ []) = accept (meaningOf i)
 meaningOfItems (i ∷ j ∷ is) = compositeFrom (i ∷ j ∷ is)
 
+-- the same items in another order
+pub data Reordered : List Item → List Item → Type 0 where
+  nil : Reordered [] []
+  keep : (i : Item) {is js : List Item} → Reordered is js → Reordered (i ∷ is) (i ∷ js)
+  swap : (i j : Item) (is : List Item) → Reordered (i ∷ j ∷ is) (j ∷ i ∷ is)
+  then : {is js ks : List Item} → Reordered is js → Reordered js ks → Reordered is ks
+
 -- ---- join: of one item 10 or 13, of more 10 to 14; then 15
 
 unfoldable pub joinedMeaning : List Item → Answer Meaning

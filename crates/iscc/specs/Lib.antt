@@ -12,8 +12,9 @@ pub mod Meaning
 pub mod Item
 pub mod Items
 pub mod Doors
-pub mod Tests
 pub mod Distance
 pub mod Lines
+pub mod Tests
+pub mod Demands
 pub mod Forms
 pub mod Labels

@@ -5,20 +5,21 @@ use Prim.Native.Nat.{ℕ, zero, suc, _+_, _-_, _/_, _%_, _^_, _<_}
 use mathlib.Core.Path.{_≡_}
 use mathlib.Core.Bool.{Bool, true, false, cond, not, _&&_, _||_}
 use mathlib.Core.List.{List, [], _∷_, _++_, map}
-use mathlib.Core.Logic.{_⊎_, inl, inr}
+use mathlib.Core.Logic.{_⊎_, inl, inr, _↔_}
 use lib.ListN.{length, take, drop}
 use lib.Dec.{eqb, leb, ltb}
-use Rattle.iscc.specs.Refusals.{Refusal, emptyText, longText, longRun, badCharacter, badCount, spareBits, badHeader, notPermitted, shortBody, notJoinable, not64Bits, mainTypeTwice, lacksDataOrInstance, subtypesDiffer, areaTooShort, otherText}
+use Rattle.iscc.specs.Refusals.{Refusal, emptyText, longText, longRun, badCharacter, badCount, spareBits, badHeader, notPermitted, shortBody, notJoinable, not64Bits, mainTypeTwice, lacksDataOrInstance, subtypesDiffer, areaTooShort, otherText, numberTooLarge, noDistance, bytesLeftOver}
 use Rattle.iscc.specs.Answer.{Answer, accept, refuse}
 use Rattle.iscc.specs.Lists.{every}
 use Rattle.iscc.specs.Digits.{digits, value, byteCount, spareCount}
 use Rattle.iscc.specs.Varnibble.{Parsed}
-use Rattle.iscc.specs.Header.{Header, readHeader}
-use Rattle.iscc.specs.Permitted.{MainType, DATA, INSTANCE, typeOf, permits, bodyBytes}
-use Rattle.iscc.specs.Alphabet.{Alphabet, digitIn, isDigit, decode}
+use Rattle.iscc.specs.Header.{Header, rawHeader, readHeader}
+use Rattle.iscc.specs.Permitted.{MainType, DATA, INSTANCE, ISCC, isUnit, typeOf, permits, bodyBytes}
+use Rattle.iscc.specs.Alphabet.{Alphabet, digitIn, isDigit, encode, decode}
 use Rattle.iscc.specs.Base32.{base32}
-use Rattle.iscc.specs.Item.{Item, readItem, itemBytes, itemOf}
-use Rattle.iscc.specs.Items.{joinable, is64Bits, otherType, sharedSubtype, has, readItems, joinedBytes}
+use Rattle.iscc.specs.Item.{Item, readItem, readOne, unitBytes}
+use Rattle.iscc.specs.Items.{sameType, joinable, is64Bits, otherType, sharedSubtype, has, readItems, joinedBytes, splitBytes}
+use Rattle.iscc.specs.Distance.{comparable}
 use Rattle.iscc.specs.Doors.{sameText, cleaned, payload, codeOf, meaningOfText, textOf}
 
 -- a rule: its number, and its test at a place (of a character, an item, a main type; a test without a place is the same at all)
@@ -45,10 +46,11 @@ abbrev pub AllHold : List (List Rule) → Type 0
 AllHold [] = Unit {0}
 AllHold (s ∷ ss) = ((j : ℕ) → HoldAt s j) × AllHold ss
 
--- an answer is as its tests say: it accepts where all of them hold, and refuses for the first that does not, at some place
-pub record By {A : Type 0} (ss : List (List Rule)) (x : Answer A) : Type 0 where
-  pub accepted : (a : A) → x ≡ accept a → AllHold ss
-  pub refused : (q : Refusal) → x ≡ refuse q → (k : ℕ) × First ss (q .number) k
+-- An answer is as its tests say: it accepts exactly where all of them hold, and it refuses with a number exactly where that
+-- number's rule is the first that is broken, at some place.
+pub record Exactly {A : Type 0} (ss : List (List Rule)) (x : Answer A) : Type 0 where
+  pub accepted : ((a : A) × (x ≡ accept a)) ↔ AllHold ss
+  pub refused : (n : ℕ) → ((q : Refusal) × (x ≡ refuse q) × (q .number ≡ n)) ↔ ((k : ℕ) × First ss n k)
 
 abbrev pub rule : Refusal → (ℕ → Bool) → List Rule
 rule r p = record { number = r .number; holds = p } ∷ []
@@ -165,3 +167,47 @@ joinStages (i ∷ j ∷ is) = listStages (i ∷ j ∷ is)
 unfoldable pub joinAllStages : List ℕ → ℕ → List (List Rule)
 joinAllStages bs area =
     (itemStage bs ∷ joinStages (orNone (readItems bs))) ++ (once areaTooShort (after (joinedBytes bs) (λ out. leb (length out) area)) ∷ [])
+
+-- ---- the calls that read or write one header, one unit, one composite
+
+-- the base32 writer gives only 15
+unfoldable pub writeStages : Alphabet → List ℕ → ℕ → List (List Rule)
+writeStages a bs area = once areaTooShort (leb (length (encode a bs)) area) ∷ []
+
+-- the raw header reader gives only 7
+unfoldable pub headerStages : List ℕ → List (List Rule)
+headerStages bs = once badHeader (headerReads bs) ∷ []
+
+-- the raw header writer: 17 for any of the four numbers, then 15
+unfoldable pub writeHeaderStages : Header → ℕ → List (List Rule)
+writeHeaderStages h area =
+    rule numberTooLarge (λ j. headHolds (λ n. leb n 4679) (drop j (h .mainType ∷ h .subtype ∷ h .version ∷ h .lengthNo ∷ [])))
+    ∷ once areaTooShort (after (rawHeader h) (λ out. leb (length out) area))
+    ∷ []
+
+-- the reader of one unit: 7, 8, 9; exactly one: then 19
+unfoldable pub unitStages : List ℕ → List (List Rule)
+unitStages bs = once badHeader (headerReads bs) ∷ once notPermitted (headerPermitted bs) ∷ once shortBody (bodyThere bs) ∷ []
+
+unfoldable pub oneStages : List ℕ → List (List Rule)
+oneStages bs = unitStages bs ++ (once bytesLeftOver (after (readItem bs) (λ g. leb (length bs) (g .used))) ∷ [])
+
+-- the unit writer: 8, 9, then 15
+unfoldable pub writeUnitStages : Header → List ℕ → ℕ → List (List Rule)
+writeUnitStages h body area =
+    once notPermitted (ltb (h .mainType) 7 && (isUnit (typeOf (h .mainType)) && permits (typeOf (h .mainType)) (h .subtype) (h .version) (h .lengthNo)))
+    ∷ once shortBody (leb (bodyBytes (typeOf (h .mainType)) (h .subtype) (h .lengthNo)) (length body))
+    ∷ once areaTooShort (after (unitBytes h body) (λ out. leb (length out) area))
+    ∷ []
+
+-- split: as exactly one, then 8 for anything but a composite, then 15
+unfoldable pub splitStages : List ℕ → ℕ → List (List Rule)
+splitStages bs area =
+    (oneStages bs ++ (once notPermitted (after (readOne bs) (λ i. sameType (i .mainType) ISCC)) ∷ []))
+    ++ (once areaTooShort (after (splitBytes bs) (λ out. leb (length out) area)) ∷ [])
+
+-- the distance: as exactly one on the first, the same on the second, then 18
+unfoldable pub distanceStages : List ℕ → List ℕ → List (List Rule)
+distanceStages x y =
+    oneStages x
+    ++ (oneStages y ++ (once noDistance (after (readOne x) (λ i. after (readOne y) (λ j. comparable i j))) ∷ []))
