@@ -1,14 +1,14 @@
 -- Reading and writing with an alphabet, once for every alphabet whose characters read back. Assumes nothing.
-use Prim.Native.Nat.{ℕ, zero, suc, _+_, _*_, _^_, _≤_, _<_}
+use Prim.Native.Nat.{ℕ, _^_, _≤_, _<_}
 use mathlib.Core.Path.{_≡_, refl, sym, _∙_, ap}
-use mathlib.Core.Bool.{Bool, true, false, cond, _&&_}
-use mathlib.Core.List.{List, [], _∷_, _++_, map}
+use mathlib.Core.Bool.{Bool, true, false}
+use mathlib.Core.List.{List, [], _∷_, map}
 use native.Mathlib.Nat.{le-of-suc-le-suc}
 use native.Mathlib.Omega.{arith}
 use lib.ListN.{length, getD, length-map}
-use lib.Dec.{ltb, eqb}
+use lib.Dec.{eqb}
 use borrow.Author.Tests.{eqb-true}
-use Rattle.iscc.specs.Answer.{accept, _>>_, _otherwise_}
+use Rattle.iscc.specs.Answer.{accept}
 use Rattle.iscc.specs.Digits.{Below, allBelow, digitCount, toDigits, byteCount, fromDigits}
 use Rattle.iscc.specs.Alphabet.{Alphabet, folded, indexOf, charIn, digitIn, encode, decode}
 use Rattle.iscc.proofs.Answer.{passed}

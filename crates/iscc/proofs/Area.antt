@@ -1,10 +1,9 @@
 -- A lent area of which the first j bytes are written: the invariant of every loop that writes from the left. Assumes nothing.
-use Prim.Native.Nat.{ℕ, zero, suc, _+_, _-_, _≤_, _<_}
+use Prim.Native.Nat.{ℕ, _+_, _≤_, _<_}
 use mathlib.Core.Path.{_≡_, refl, sym, _∙_, ap}
 use mathlib.Core.List.{List, [], _∷_, _++_}
 use native.Mathlib.Omega.{arith}
 use lib.ListN.{length, drop, set, length-append, length-drop}
-use lib.Dec.{lit≤}
 use Rattle.iscc.specs.Answer.{accept, areaAfter}
 use Rattle.iscc.proofs.Text.{store-next}
 

@@ -1,11 +1,9 @@
 -- The laws of base32. Assumes nothing.
-use Prim.Native.Nat.{ℕ, zero, suc, _+_, _*_, _/_, _%_, _<_}
+use Prim.Native.Nat.{ℕ, _+_, _*_, _/_, _%_}
 use mathlib.Core.Path.{_≡_, refl, sym, _∙_, ap}
-use mathlib.Core.Bool.{Bool, true, false, not, cond, _&&_, _||_, Bool·beq}
-use mathlib.Core.List.{List, [], _∷_}
+use mathlib.Core.Bool.{Bool, true, false, not, _||_, Bool·beq}
 use native.Mathlib.Nat.{mod-lt, mul-add-mod-self-right}
 use native.Mathlib.Omega.{arith}
-use lib.ListN.{getD}
 use lib.Dec.{ltb, eqb, lit<, lit≤}
 use borrow.Author.Tests.{eqb-true}
 use Rattle.iscc.specs.Digits.{spareCount}

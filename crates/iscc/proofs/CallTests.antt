@@ -1,25 +1,25 @@
 -- The calls on one header, one unit, one composite and two units answer as their tests say. Assumes nothing.
-use Prim.Native.Nat.{ℕ, zero, suc, _+_, _≤_, _<_}
-use mathlib.Core.Path.{_≡_, refl, sym, _∙_, ap, subst}
-use mathlib.Core.Logic.{_⊎_, inl, inr}
-use mathlib.Core.Bool.{Bool, true, false, cond, _&&_}
+use Prim.Native.Nat.{ℕ}
+use mathlib.Core.Path.{_≡_, refl, sym, subst}
+use mathlib.Core.Logic.{inl, inr}
+use mathlib.Core.Bool.{Bool, true, false, _&&_}
 use mathlib.Core.List.{List, [], _∷_, _++_}
 use native.Mathlib.Nat.{not-suc-le-zero}
-use lib.ListN.{length, take, drop}
-use lib.Dec.{eqb, leb, ltb}
+use lib.ListN.{length, drop}
+use lib.Dec.{leb, ltb}
 use Rattle.iscc.specs.Refusals.{Refusal, badHeader, notPermitted, shortBody, areaTooShort, numberTooLarge, noDistance, bytesLeftOver}
-use Rattle.iscc.specs.Answer.{Answer, accept, refuse, _>>=_, _>>_, _otherwise_, into}
+use Rattle.iscc.specs.Answer.{Answer, accept, _>>=_, _>>_, _otherwise_}
 use Rattle.iscc.specs.Lists.{every}
 use Rattle.iscc.specs.Alphabet.{encode}
 use Rattle.iscc.specs.Base32.{base32, writeBase32}
-use Rattle.iscc.specs.Varnibble.{Parsed, varnibble, writeVarnibble}
+use Rattle.iscc.specs.Varnibble.{varnibble, writeVarnibble}
 use Rattle.iscc.specs.Header.{Header, packed, headerBytes, rawHeader, readHeader, writeHeader}
 use Rattle.iscc.specs.Permitted.{MainType, META, SEMANTIC, CONTENT, DATA, INSTANCE, ISCC, ID, typeOf, mainTypeOf, isUnit, permits, bodyBytes}
-use Rattle.iscc.specs.Item.{Item, compositeOf, meaningAs, meaningOf, readItem, readOne, unitBytes, writeUnit}
+use Rattle.iscc.specs.Item.{compositeOf, meaningAs, meaningOf, readItem, readOne, unitBytes, writeUnit}
 use Rattle.iscc.specs.Items.{sameType, unitsOf, itemsBytes, splitBytes, split}
-use Rattle.iscc.specs.Distance.{Distance, comparable, distance}
-use Rattle.iscc.specs.Tests.{Rule, HoldAt, BrokenAt, First, AllHold, rule, once, headHolds, after, headerReads, headerPermitted, bodyThere, itemTest, itemStage, writeStages, headerStages, writeHeaderStages, unitStages, oneStages, writeUnitStages, splitStages, distanceStages}
-use Rattle.iscc.proofs.Tests.{By, step, step-once, done, after-part, into-by, step-every, header-only, item-broken, item-holds}
+use Rattle.iscc.specs.Distance.{comparable, distance}
+use Rattle.iscc.specs.Tests.{HoldAt, BrokenAt, First, rule, once, headHolds, headerReads, headerPermitted, bodyThere, itemTest, itemStage, writeStages, headerStages, writeHeaderStages, unitStages, oneStages, writeUnitStages, splitStages, distanceStages}
+use Rattle.iscc.proofs.Tests.{By, step-once, done, after-part, into-by, step-every, header-only, item-broken, item-holds}
 
 -- ---- base32 and raw headers
 

@@ -2,24 +2,24 @@
 -- intake writes back; each permitted meaning has one strict text, and intake writes it.
 -- Here it follows from two laws: what a text means is permitted, and the text of a permitted meaning has that meaning.
 -- Assumes nothing.
-use Prim.Native.Nat.{ℕ, zero, suc, _≤_}
-use mathlib.Core.Path.{_≡_, refl, sym, _∙_, ap, subst}
+use Prim.Native.Nat.{ℕ, _≤_}
+use mathlib.Core.Path.{_≡_, refl, sym, _∙_, ap}
 use mathlib.Core.Logic.{_↔_}
 use mathlib.Core.Bool.{Bool, true, false, _&&_}
 use mathlib.Core.List.{List, [], _∷_, _++_}
 use native.Mathlib.Nat.{le-of-eq}
-use lib.ListN.{length, take, drop, replicate, length-replicate}
+use lib.ListN.{length, drop, replicate, length-replicate}
 use lib.Seq.{take-append-seam}
 use lib.Dec.{leb, eqb}
 use native.Mathlib.Omega.{arith}
 use borrow.Author.Tests.{le-leb, eqb-true, eq-eqb}
-use Rattle.iscc.specs.Answer.{accept, _>>=_, _>>_, _otherwise_, areaAfter, written}
+use Rattle.iscc.specs.Answer.{accept, _>>=_, _>>_, _otherwise_, written}
 use Rattle.iscc.specs.Refusals.{otherText}
 use Rattle.iscc.specs.Meaning.{Meaning, Permitted}
 use Rattle.iscc.specs.Item.{Item, itemBytes, itemOf}
 use Rattle.iscc.specs.Alphabet.{encode}
 use Rattle.iscc.specs.Base32.{base32}
-use Rattle.iscc.specs.Items.{Reordered, meaningOfItems}
+use Rattle.iscc.specs.Items.{Reordered}
 use Rattle.iscc.specs.Demands.{Demand3}
 use Rattle.iscc.proofs.Order.{means-same}
 use Rattle.iscc.specs.Doors.{scheme, sameText, meaningOfText, codeOf, textOf, intake, writtenText, strict}

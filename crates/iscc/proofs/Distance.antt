@@ -1,19 +1,19 @@
 -- The laws of distance. Assumes nothing.
-use Prim.Native.Nat.{ℕ, zero, suc, _+_, _-_, _*_, min, _≤_, _<_}
-use mathlib.Core.Path.{_≡_, refl, sym, _∙_, ap}
+use Prim.Native.Nat.{ℕ, _*_, min, _≤_}
+use mathlib.Core.Path.{_≡_, refl}
 use mathlib.Core.Bool.{Bool, true, false, cond}
-use mathlib.Core.List.{List, [], _∷_, _++_}
+use mathlib.Core.List.{List, [], _∷_}
 use native.Mathlib.Omega.{arith}
 use lib.ListN.{length, length-append}
 use lib.Dec.{eqb, leb, lit≤}
 use lib.IntN.{pos}
-use lib.Ieee.{Float, binary32, ofInt, div, mul, eq}
+use lib.Ieee.{binary32, ofInt, div, mul, eq}
 use Rattle.iscc.specs.Digits.{digits}
 use mathlib.Core.Path.{subst}
 use mathlib.Core.Bool.{_&&_}
 use native.Mathlib.Nat.{le-trans, le-of-eq}
 use borrow.Author.Tests.{leb-true}
-use Rattle.iscc.specs.Answer.{accept, _>>=_, _>>_, _otherwise_}
+use Rattle.iscc.specs.Answer.{accept}
 use Rattle.iscc.specs.Digits.{Below}
 use Rattle.iscc.specs.Permitted.{MainType, META, SEMANTIC, CONTENT, DATA, INSTANCE, ISCC, ID, number, permits, bodyBytes}
 use Rattle.iscc.specs.Item.{readOne}

@@ -1,14 +1,14 @@
 -- Laws A and B of the doors: what a text means is permitted, and the text of a permitted meaning has that meaning.
 -- Demand 3 follows. Assumes nothing.
-use Prim.Native.Nat.{ℕ, zero, suc, _+_, _-_, _*_, _/_, _%_, _≤_, _<_}
-use mathlib.Core.Path.{_≡_, refl, sym, _∙_, ap, subst}
-use mathlib.Core.Bool.{Bool, true, false, not, cond, _&&_, _||_}
+use Prim.Native.Nat.{ℕ, _+_, _*_, _/_, _≤_, _<_}
+use mathlib.Core.Path.{_≡_, refl, sym, _∙_, ap}
+use mathlib.Core.Bool.{false, not}
 use mathlib.Core.List.{List, [], _∷_, _++_, map, append-nil}
 use native.Mathlib.Omega.{arith}
-use lib.ListN.{length, take, drop, length-append}
-use lib.Dec.{eqb, leb, ltb, lit≤}
+use lib.ListN.{length}
+use lib.Dec.{eqb, leb, ltb}
 use borrow.Author.Tests.{le-leb, lt-ltb, not-true}
-use Rattle.iscc.specs.Answer.{accept, _>>=_, _>>_, _otherwise_}
+use Rattle.iscc.specs.Answer.{accept}
 use Rattle.iscc.specs.Digits.{Below, digitCount, toDigits}
 use Rattle.iscc.specs.Alphabet.{Alphabet, upper, charIn, encode, decode}
 use Rattle.iscc.specs.Base32.{base32}

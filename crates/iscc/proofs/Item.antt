@@ -1,20 +1,19 @@
 -- The laws of one item. Assumes nothing.
-use Prim.Native.Nat.{ℕ, zero, suc, _+_, _-_, _*_, _/_, _%_, _≤_, _<_}
-use mathlib.Core.Path.{_≡_, refl, sym, _∙_, ap, subst}
-use mathlib.Core.Bool.{Bool, true, false, cond, _&&_}
-use mathlib.Core.Option.{Option, none, some}
-use mathlib.Core.List.{List, [], _∷_, _++_, append-assoc}
+use Prim.Native.Nat.{ℕ, _+_, _≤_}
+use mathlib.Core.Path.{_≡_, sym, _∙_, ap, subst}
+use mathlib.Core.Bool.{true, _&&_}
+use mathlib.Core.List.{List, _++_, append-assoc}
 use native.Mathlib.Omega.{arith}
 use lib.ListN.{length, take, drop, length-append, length-drop}
-use lib.Seq.{take-append-seam, drop-append-seam, take-at, drop-at, length-take-le, take-add}
-use lib.Dec.{eqb, leb, lit≤}
+use lib.Seq.{drop-append-seam, take-at, length-take-le, take-add}
+use lib.Dec.{leb}
 use borrow.Author.Tests.{le-leb, leb-true}
-use Rattle.iscc.specs.Answer.{accept, _>>=_, _>>_, _otherwise_}
+use Rattle.iscc.specs.Answer.{accept}
 use Rattle.iscc.specs.Digits.{Below}
 use Rattle.iscc.specs.Varnibble.{Parsed}
 use Rattle.iscc.specs.Header.{Header, headerBytes, readHeader}
 use Rattle.iscc.specs.Permitted.{MainType, number, mainTypeOf, isUnit, permits, bodyBytes}
-use Rattle.iscc.specs.Meaning.{unit, Sized}
+use Rattle.iscc.specs.Meaning.{Sized}
 use Rattle.iscc.specs.Item.{Item, headerOf, itemBytes, readItem, unitBytes}
 use Rattle.iscc.proofs.Answer.{passed, answered, accept-inj}
 use Rattle.iscc.proofs.Digits.{below-append, below-take, below-drop, and-true}

@@ -21,4 +21,5 @@ pub mod Doors
 pub mod Tests
 pub mod CallTests
 pub mod Exactly
+pub mod Demands
 pub mod Labels

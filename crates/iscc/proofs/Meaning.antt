@@ -1,13 +1,12 @@
 -- An item and its meaning: each comes back from the other. Assumes nothing.
-use Prim.Native.Nat.{ℕ, zero, suc, _+_, _-_, _*_, _/_, _%_, _≤_, _<_}
-use mathlib.Core.Path.{_≡_, refl, sym, _∙_, ap, subst}
-use mathlib.Core.Bool.{Bool, true, false, cond, _&&_}
+use Prim.Native.Nat.{ℕ, _+_, _-_, _*_, _≤_}
+use mathlib.Core.Path.{_≡_, refl, _∙_, ap}
+use mathlib.Core.Bool.{Bool, true, false}
 use mathlib.Core.Option.{Option, none, some}
-use mathlib.Core.List.{List, [], _∷_, _++_, append-assoc}
+use mathlib.Core.List.{List, _++_, append-assoc}
 use native.Mathlib.Omega.{arith}
-use lib.ListN.{length, take, drop, length-append, length-drop}
-use lib.Seq.{take-append-seam, drop-append-seam, take-at, drop-at, length-take-le}
-use lib.Dec.{eqb, leb, lit≤}
+use lib.ListN.{length, take, drop, length-append, length-drop, take-append-drop}
+use lib.Seq.{take-at, drop-at, length-take-le}
 use Rattle.iscc.specs.Digits.{Below}
 use Rattle.iscc.specs.Permitted.{MainType, META, SEMANTIC, CONTENT, DATA, INSTANCE, ISCC, ID, isUnit, setOf, weight, permits, bodyBytes}
 use Rattle.iscc.specs.Meaning.{Meaning, unit, composite, isIn, Sized, Eight, Permitted}
@@ -133,3 +132,41 @@ meant-item i p = go (i .mainType) (i .subtype) (i .version) (i .lengthNo) (i .bo
     go INSTANCE s v l body h z = record { lengthNo = l; single = refl; header = h; sized = z }
     go ISCC s v l body h z = composite-permitted s v l body h z
     go ID s v l body h z = record { lengthNo = l; single = refl; header = h; sized = z }
+
+-- ---- from a permitted item to its meaning and back
+
+next-behind : (a : Bool) (bs : List ℕ) → bytesIn (nextBody a bs) ++ behind a bs ≡ bs
+next-behind true bs = take-append-drop 8 bs
+next-behind false bs = refl
+
+five : (a b c d e : List ℕ) → a ++ b ++ c ++ d ++ e ≡ a ++ (b ++ (c ++ (d ++ e)))
+five a b c d e = simp append-assoc
+
+composite-back : (s v l : ℕ) (bs : List ℕ) → l ≤ 7
+    → itemOf (compositeOf s v (setOf l) bs) ≡ record { mainType = ISCC; subtype = s; version = v; lengthNo = l; body = bs }
+unfolding itemOf compositeOf
+composite-back s v l bs h =
+    let a : Bool = setOf l .meta in
+    let b : Bool = setOf l .semantic in
+    let c : Bool = setOf l .content in
+    let bs₁ : List ℕ = behind a bs in
+    let bs₂ : List ℕ = behind b bs₁ in
+    let bs₃ : List ℕ = behind c bs₂ in
+    let whole : bytesIn (nextBody a bs) ++ bytesIn (nextBody b bs₁) ++ bytesIn (nextBody c bs₂) ++ take 8 bs₃ ++ drop 8 bs₃ ≡ bs =
+    five (bytesIn (nextBody a bs)) (bytesIn (nextBody b bs₁)) (bytesIn (nextBody c bs₂)) (take 8 bs₃) (drop 8 bs₃)
+    ∙ rw (take-append-drop 8 bs₃, next-behind c bs₂, next-behind b bs₁, next-behind a bs) in
+    rw (isIn-next a bs, isIn-next b bs₁, isIn-next c bs₂, number-back l h, whole)
+
+pub item-back : (i : Item) → PermittedItem i → itemOf (meaningOf i) ≡ i
+unfolding meaningAs itemOf
+item-back i p = go (i .mainType) (i .subtype) (i .version) (i .lengthNo) (i .body) (p .header) (p .body .0)
+  where
+    go : (m : MainType) (s v l : ℕ) (body : List ℕ) → permits m s v l ≡ true → length body ≡ bodyBytes m s l
+        → itemOf (meaningAs m s v l body) ≡ record { mainType = m; subtype = s; version = v; lengthNo = l; body = body }
+    go META s v l body h z = rw (z, lengthNo-back META s l refl)
+    go SEMANTIC s v l body h z = rw (z, lengthNo-back SEMANTIC s l refl)
+    go CONTENT s v l body h z = rw (z, lengthNo-back CONTENT s l refl)
+    go DATA s v l body h z = rw (z, lengthNo-back DATA s l refl)
+    go INSTANCE s v l body h z = rw (z, lengthNo-back INSTANCE s l refl)
+    go ISCC s v l body h z = composite-back s v l body (small ISCC s v l h .lengthNo)
+    go ID s v l body h z = rw (z, lengthNo-back ID s l refl)

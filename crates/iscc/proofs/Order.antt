@@ -1,19 +1,18 @@
 -- A list's order does not matter to the composite that it makes, nor to the number with which it is refused. Assumes nothing.
-use Prim.Native.Nat.{ℕ, zero, suc}
+use Prim.Native.Nat.{ℕ, suc}
 use mathlib.Core.Path.{_≡_, refl, sym, _∙_, ap}
 use mathlib.Core.Bool.{Bool, true, false, not, cond, _&&_, _||_}
-use mathlib.Core.Option.{Option, none, some}
-use mathlib.Core.List.{List, [], _∷_, _++_}
+use mathlib.Core.Option.{some}
+use mathlib.Core.List.{List, [], _∷_}
 use native.Mathlib.Decide.{ℕ-discrete}
 use native.Mathlib.Omega.{arith}
 use lib.ListN.{length}
 use lib.Dec.{eqb}
-use borrow.Author.Tests.{eqb-true, eq-eqb, ne-eqb}
-use Rattle.iscc.specs.Answer.{_>>=_, _>>_, _otherwise_}
+use borrow.Author.Tests.{eq-eqb, ne-eqb}
 use Rattle.iscc.specs.Permitted.{MainType, META, SEMANTIC, CONTENT, DATA, INSTANCE, number}
 use Rattle.iscc.specs.Item.{Item}
 use Rattle.iscc.specs.Lists.{every, pairwise}
-use Rattle.iscc.specs.Items.{sameType, joinable, is64Bits, otherType, hasSubtype, sharedSubtype, bodyIn, subtypeIn, has, subtypeOf, compositeFrom, meaningOfItems, Reordered, nil, keep, swap, then}
+use Rattle.iscc.specs.Items.{sameType, joinable, is64Bits, otherType, hasSubtype, sharedSubtype, bodyIn, subtypeIn, subtypeOf, compositeFrom, meaningOfItems, Reordered, nil, keep, swap, then}
 use Rattle.iscc.proofs.Digits.{and-true}
 use Rattle.iscc.proofs.Items.{sameType-eq}
 

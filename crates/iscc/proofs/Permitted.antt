@@ -1,12 +1,12 @@
 -- The laws of permitted headers. Assumes nothing.
-use Prim.Native.Nat.{ℕ, zero, suc, _+_, _-_, _*_, _/_, _%_, _≤_, _<_}
+use Prim.Native.Nat.{ℕ, _≤_, _<_}
 use mathlib.Core.Path.{_≡_, refl, sym, _∙_, ap}
-use mathlib.Core.Bool.{Bool, true, false, cond, _&&_}
+use mathlib.Core.Bool.{Bool, true, false, cond}
 use native.Mathlib.Omega.{arith}
 use lib.ListN.{List·getD-eq-default}
 use lib.Dec.{eqb, leb, ltb, lit≤}
 use borrow.Author.Tests.{eqb-true, leb-true, ltb-true, eq-eqb}
-use Rattle.iscc.specs.Answer.{accept, _>>_, _otherwise_}
+use Rattle.iscc.specs.Answer.{accept}
 use Rattle.iscc.specs.Permitted.{MainType, META, SEMANTIC, CONTENT, DATA, INSTANCE, ISCC, ID, number, isUnit, typeOf, mainTypeOf, Set, sets, setOf, setNumber, weight, unitCount, compositeSubtype, row, permits, bodyBytes}
 use Rattle.iscc.specs.Item.{lengthNoOf}
 use Rattle.iscc.proofs.Answer.{accept-inj, passed}

@@ -1,21 +1,21 @@
 -- A composite split into its units, and joined again. Assumes nothing.
-use Prim.Native.Nat.{ℕ, zero, suc, _+_, _-_, _*_, _≤_, _<_}
+use Prim.Native.Nat.{ℕ, _≤_, _<_}
 use mathlib.Core.Path.{_≡_, refl, sym, _∙_, ap, subst}
-use mathlib.Core.Bool.{Bool, true, false, not, cond, _&&_, _||_, false≢true}
+use mathlib.Core.Bool.{Bool, true, false, cond, false≢true}
 use mathlib.Core.Option.{Option, none, some}
 use mathlib.Core.List.{List, [], _∷_, _++_, append-nil, append-assoc}
 use native.Mathlib.Nat.{le-refl, not-suc-le-zero}
 use native.Mathlib.Omega.{arith}
 use lib.ListN.{length, length-append}
-use lib.Dec.{eqb, leb}
+use lib.Dec.{leb}
 use borrow.Author.Tests.{le-leb, leb-true, eqb-true, eq-eqb}
-use Rattle.iscc.specs.Answer.{accept, refuse, _>>=_, _>>_, _otherwise_}
+use Rattle.iscc.specs.Answer.{accept, refuse}
 use Rattle.iscc.specs.Digits.{Below}
 use Rattle.iscc.specs.Permitted.{MainType, META, SEMANTIC, CONTENT, DATA, INSTANCE, setNumber, compositeSubtype, row, bodyBytes}
 use Rattle.iscc.specs.Meaning.{Meaning, composite, isIn, Sized, Eight, Permitted}
 use Rattle.iscc.specs.Item.{Item, itemBytes, readItem, readOne, itemOf}
 use Rattle.iscc.specs.Lists.{every, pairwise}
-use Rattle.iscc.specs.Items.{readItems, joinable, bodyIn, subtypeIn, subtypeOf, requiredBody, compositeFrom, joinedMeaning, joinedBytes, unit64, unitIn, unitsOf, itemsBytes, splitBytes, orMissing}
+use Rattle.iscc.specs.Items.{readItems, joinable, bodyIn, subtypeIn, subtypeOf, compositeFrom, joinedMeaning, joinedBytes, unit64, unitIn, unitsOf, itemsBytes, splitBytes, orMissing}
 use Rattle.iscc.proofs.Item.{PermittedItem, read-item, ReadItem, item-read}
 use Rattle.iscc.proofs.Answer.{passed, answered, accept-inj, never}
 use Rattle.iscc.specs.Refusals.{lacksDataOrInstance}

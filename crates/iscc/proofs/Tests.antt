@@ -11,19 +11,18 @@ use Rattle.iscc.specs.Item.{Item, meaningOf, readItem, itemBytes, itemOf
 use Rattle.iscc.specs.Varnibble.{readVarnibble, rowBy, Parsed}
 use Rattle.iscc.specs.Header.{readHeader, nibbles, Header}
 use Rattle.iscc.specs.Items.{compositeFrom, orMissing, meaningOfItems, joinable, is64Bits, otherType, bodyIn, sharedSubtype, readItems, readUpTo, sameType, has, joinedMeaning, join, joinedBytes}
-use Prim.Native.Nat.{ℕ, zero, suc, _+_, _-_, _*_, _/_, _%_, _^_, _≤_, _<_, min}
+use Prim.Native.Nat.{ℕ, zero, suc, _+_, _%_, _^_, _≤_, _<_, min}
 use mathlib.Core.Path.{_≡_, refl, sym, _∙_, ap, subst}
 use mathlib.Core.Logic.{_⊎_, inl, inr}
-use mathlib.Core.Bool.{Bool, true, false, cond, not, _&&_, _||_}
+use mathlib.Core.Bool.{Bool, true, false, cond, _&&_, _||_}
 use mathlib.Core.Option.{Option, none, some}
 use mathlib.Core.List.{List, [], _∷_, _++_, map, append-assoc, append-nil}
-use native.Mathlib.Nat.{not-suc-le-zero, le-of-suc-le-suc, add-sub-cancel-left}
+use native.Mathlib.Nat.{not-suc-le-zero, le-of-suc-le-suc}
 use native.Mathlib.Omega.{arith}
 use native.Mathlib.Decide.{ℕ-discrete}
 use lib.ListN.{length, take, drop, getD, length-drop, length-take}
-use lib.Seq.{getD-drop}
 use lib.Dec.{eqb, leb, ltb, lit<}
-use borrow.Author.Tests.{le-leb, leb-true, eq-eqb, ne-eqb, leb-false, le-ltb, ltb-false}
+use borrow.Author.Tests.{eq-eqb, ne-eqb, leb-false}
 use Rattle.iscc.specs.Permitted.{MainType, META, SEMANTIC, CONTENT, DATA, INSTANCE, ISCC, ID, number, mainTypeOf, permits, typeOf, bodyBytes}
 use Rattle.iscc.proofs.Digits.{and-true, below-drop}
 use Rattle.iscc.specs.Refusals.{Refusal, badHeader, lacksDataOrInstance, notJoinable, not64Bits, mainTypeTwice, subtypesDiffer, notPermitted, shortBody, badCount, badCharacter, spareBits, emptyText, longRun, areaTooShort, otherText, longText}

@@ -1,8 +1,7 @@
 -- The laws of varnibbles. Assumes nothing.
-use Prim.Native.Nat.{ℕ, zero, suc, _+_, _-_, _*_, _/_, _%_, _^_, _≤_, _<_}
-use mathlib.Core.Path.{_≡_, refl, sym, _∙_, ap, subst}
-use mathlib.Core.Bool.{Bool, true, false, cond}
-use mathlib.Core.Logic.{_⊎_}
+use Prim.Native.Nat.{ℕ, suc, _+_, _-_, _*_, _%_, _^_, _≤_, _<_}
+use mathlib.Core.Path.{_≡_, _∙_, ap, subst}
+use mathlib.Core.Bool.{true}
 use mathlib.Core.List.{List, [], _∷_, _++_}
 use native.Mathlib.Nat.{le-of-suc-le-suc, add-zero}
 use native.Mathlib.Decide.{decLt}
@@ -11,7 +10,7 @@ use lib.ListN.{length, getD, take, drop, length-append, length-drop, drop-of-len
 use lib.Seq.{take-at, length-take-le, getD-drop}
 use lib.Dec.{ltb, leb}
 use borrow.Author.Tests.{lt-ltb, le-ltb, le-leb, lt-leb, ltb-true, leb-true}
-use Rattle.iscc.specs.Answer.{accept, refuse, _>>_, _otherwise_}
+use Rattle.iscc.specs.Answer.{accept, refuse}
 use Rattle.iscc.specs.Refusals.{badHeader}
 use Rattle.iscc.specs.Digits.{digits, value, Below}
 use Rattle.iscc.specs.Varnibble.{firstOf, prefixOf, rowOf, rowBy, varnibble, Parsed, readVarnibble}

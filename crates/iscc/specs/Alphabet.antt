@@ -1,9 +1,9 @@
 -- An alphabet of RFC 4648: a character for each digit of so many bits, without padding.
 -- Assumes nothing.
-use Prim.Native.Nat.{ℕ, zero, suc, _+_, _-_, _^_}
+use Prim.Native.Nat.{ℕ, suc, _-_, _^_}
 use mathlib.Core.Bool.{Bool, true, false, _&&_, cond}
-use mathlib.Core.List.{List, [], _∷_, _++_, map}
-use lib.ListN.{length, getD}
+use mathlib.Core.List.{List, [], _∷_, map}
+use lib.ListN.{getD}
 use lib.Dec.{ltb, leb, eqb}
 use Rattle.iscc.specs.Answer.{Answer, _>>_, _otherwise_}
 use Rattle.iscc.specs.Refusals.{badCharacter}

@@ -1,8 +1,8 @@
 -- Numbers as digits of v bits, the high digit first: bits (v = 1), nibbles (4), base32 (5), bytes (8).
 -- Assumes nothing.
 use Prim.Native.Nat.{ℕ, zero, suc, _+_, _-_, _*_, _/_, _%_, _^_, _<_}
-use mathlib.Core.Bool.{Bool, true, false, _&&_}
-use mathlib.Core.List.{List, [], _∷_, _++_}
+use mathlib.Core.Bool.{Bool, true, _&&_}
+use mathlib.Core.List.{List, [], _∷_}
 use lib.ListN.{length}
 use lib.Dec.{ltb, eqb}
 use Rattle.iscc.specs.Answer.{Answer, accept, _>>_, _otherwise_}

@@ -1,10 +1,10 @@
 -- Raw headers (source documents 002 and 003): four varnibbles, and a zero nibble if they are odd in number.
 -- Assumes nothing.
-use Prim.Native.Nat.{ℕ, zero, suc, _+_, _*_, _/_, _%_}
-use mathlib.Core.Bool.{Bool, true, false, cond, _||_}
+use Prim.Native.Nat.{ℕ, _+_, _*_, _/_, _%_}
+use mathlib.Core.Bool.{_||_}
 use mathlib.Core.List.{List, [], _∷_, _++_}
-use lib.ListN.{length, getD, drop}
-use lib.Dec.{eqb, leb}
+use lib.ListN.{getD, drop}
+use lib.Dec.{eqb}
 use Rattle.iscc.specs.Answer.{Answer, accept, _>>=_, _>>_, _otherwise_, into}
 use Rattle.iscc.specs.Refusals.{badHeader}
 use Rattle.iscc.specs.Varnibble.{Parsed, varnibble, writeVarnibble, readVarnibble}

@@ -5,7 +5,7 @@ use Prim.Native.String.{String, len, charAt}
 use Prim.Native.Char.{code}
 use mathlib.Core.Path.{_≡_}
 use mathlib.Core.Bool.{false}
-use mathlib.Core.List.{List, [], _∷_, _++_, map}
+use mathlib.Core.List.{List, [], _∷_, map}
 use lib.Ieee.{Float, fin}
 use lib.IntN.{negsuc}
 use Rattle.iscc.specs.Answer.{accept, refuse}

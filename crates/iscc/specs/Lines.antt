@@ -1,7 +1,7 @@
 -- Document 01, "The line program": what it writes for what it reads.
 -- Assumes nothing.
 use Prim.Native.Nat.{ℕ, _+_, _/_, _%_}
-use mathlib.Core.Bool.{Bool, true, false, cond}
+use mathlib.Core.Bool.{cond}
 use mathlib.Core.List.{List, [], _∷_, _++_}
 use lib.Dec.{eqb, ltb}
 use Rattle.iscc.specs.Answer.{Answer, accept, refuse}

@@ -1,20 +1,20 @@
 -- Document 01, "Numbers of refusal and their order": the tests of the calls, in their order. A number is given exactly when its
 -- rule is the first that is broken.
 -- Assumes nothing.
-use Prim.Native.Nat.{ℕ, zero, suc, _+_, _-_, _/_, _%_, _^_, _<_}
+use Prim.Native.Nat.{ℕ, zero, suc, _+_, _%_, _^_, _<_}
 use mathlib.Core.Path.{_≡_}
-use mathlib.Core.Bool.{Bool, true, false, cond, not, _&&_, _||_}
+use mathlib.Core.Bool.{Bool, true, false, cond, _&&_}
 use mathlib.Core.List.{List, [], _∷_, _++_, map}
-use mathlib.Core.Logic.{_⊎_, inl, inr, _↔_}
+use mathlib.Core.Logic.{_⊎_, _↔_}
 use lib.ListN.{length, take, drop}
 use lib.Dec.{eqb, leb, ltb}
 use Rattle.iscc.specs.Refusals.{Refusal, emptyText, longText, longRun, badCharacter, badCount, spareBits, badHeader, notPermitted, shortBody, notJoinable, not64Bits, mainTypeTwice, lacksDataOrInstance, subtypesDiffer, areaTooShort, otherText, numberTooLarge, noDistance, bytesLeftOver}
 use Rattle.iscc.specs.Answer.{Answer, accept, refuse}
 use Rattle.iscc.specs.Lists.{every}
-use Rattle.iscc.specs.Digits.{digits, value, byteCount, spareCount}
+use Rattle.iscc.specs.Digits.{value, spareCount}
 use Rattle.iscc.specs.Varnibble.{Parsed}
 use Rattle.iscc.specs.Header.{Header, rawHeader, readHeader}
-use Rattle.iscc.specs.Permitted.{MainType, DATA, INSTANCE, ISCC, isUnit, typeOf, permits, bodyBytes}
+use Rattle.iscc.specs.Permitted.{DATA, INSTANCE, ISCC, isUnit, typeOf, permits, bodyBytes}
 use Rattle.iscc.specs.Alphabet.{Alphabet, digitIn, isDigit, encode, decode}
 use Rattle.iscc.specs.Base32.{base32}
 use Rattle.iscc.specs.Item.{Item, readItem, readOne, unitBytes}

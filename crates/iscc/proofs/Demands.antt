@@ -1,0 +1,186 @@
+-- The user's demands hold of the definitions. Demand 3 is proved in Doors.antt. Assumes nothing.
+use Prim.Native.Nat.{ℕ, _≤_}
+use mathlib.Core.Path.{_≡_, refl, sym, _∙_, ap, subst}
+use mathlib.Core.Logic.{_⊎_, inl, inr}
+use mathlib.Core.Bool.{true}
+use mathlib.Core.Option.{Option}
+use mathlib.Core.List.{List, [], _∷_, _++_, map}
+use native.Mathlib.Omega.{arith}
+use lib.ListN.{length, drop, length-append, length-drop}
+use lib.Seq.{take-append-seam, drop-append-seam}
+use lib.Dec.{leb}
+use lib.IntN.{pos}
+use lib.Ieee.{binary32, ofInt, mul, eq}
+use borrow.Author.Tests.{leb-true}
+use Rattle.iscc.specs.Refusals.{Refusal, areaTooShort}
+use Rattle.iscc.specs.Answer.{Answer, accept, refuse, _>>=_, _>>_, _otherwise_, into, Kept}
+use Rattle.iscc.specs.Digits.{Below}
+use Rattle.iscc.specs.Alphabet.{encode, decode}
+use Rattle.iscc.specs.Base32.{base32}
+use Rattle.iscc.specs.Header.{Header, rawHeader}
+use Rattle.iscc.specs.Meaning.{Meaning, unit, composite, Permitted}
+use Rattle.iscc.specs.Item.{Item, itemBytes, readItem, readOne, unitBytes, meaningOf, itemOf}
+use Rattle.iscc.specs.Items.{readItems, itemsBytes, unitsOf, joinedBytes, splitBytes}
+use Rattle.iscc.specs.Doors.{meaningOfText, textOf, intake}
+use Rattle.iscc.specs.Distance.{ratioOf}
+use Rattle.iscc.specs.Demands as demands
+use Rattle.iscc.specs.Demands.{Demand1, Demand2, UnitBack}
+use Rattle.iscc.proofs.Answer.{never, accept-inj, passed, answered}
+use Rattle.iscc.proofs.ByteDigits.{from-to}
+use Rattle.iscc.proofs.Alphabet.{decode-encode, encode-decode}
+use Rattle.iscc.proofs.Base32.{sound32}
+use Rattle.iscc.proofs.Varnibble.{length-varnibble, read-varnibble, varnibble-read}
+use Rattle.iscc.proofs.Header.{read-header, header-read}
+use Rattle.iscc.proofs.Item.{PermittedItem, UnitWritten, read-item, item-read, unit-written}
+use Rattle.iscc.proofs.Meaning.{meaning-back, item-permitted, meant-item, item-back}
+use Rattle.iscc.proofs.Items.{AllPermitted, read-items, items-read}
+use Rattle.iscc.proofs.Split.{splits, one-read, join-makes}
+use Rattle.iscc.proofs.Distance.{bounded, exact-32, exact-64, exact-128, exact-256}
+use Rattle.iscc.proofs.Doors.{meant, short}
+use Rattle.iscc.proofs.Tests.{intake-by, strict-by, read-by, join-by}
+use Rattle.iscc.proofs.CallTests.{write-by, header-by, header-write-by, unit-by, unit-write-by, split-by, distance-by}
+use Rattle.iscc.proofs.Exactly.{exactly}
+
+-- ---- lent areas
+
+-- what fits is written in front, and the area's own bytes follow
+kept : (x : Answer (List ℕ)) (area : List ℕ) → ((out : List ℕ) → x ≡ accept out → length out ≤ length area) → Kept x area
+kept (refuse q) area f = record { refused = λ r e. refl; front = λ out e. absurd (never e); past = refl; same = refl }
+kept (accept out) area f =
+    let l : length out ≤ length area = f out refl in
+    record {
+      refused = λ r e. absurd (never (sym e));
+      front = λ o e. take-append-seam out (drop (length out) area) ∙ accept-inj e;
+      past = drop-append-seam out (drop (length out) area);
+      same = simp (length-append, length-drop) (omega arith);
+    }
+
+kept-into : (x : Answer (List ℕ)) (area : List ℕ) → Kept (into (length area) x) area
+kept-into x area = kept (into (length area) x) area (λ out e. fits x out e)
+  where
+    fits : (x : Answer (List ℕ)) (out : List ℕ) → into (length area) x ≡ accept out → length out ≤ length area
+    fits x out e =
+        let a = answered x (λ o. leb (length o) (length area) otherwise areaTooShort >> accept o) e in
+        let p = passed (leb (length (a .0)) (length area)) _ (accept (a .0)) (a .2) in
+        subst (λ (o : List ℕ). length o ≤ length area) (accept-inj (p .1)) (leb-true (length (a .0)) (length area) (p .0))
+
+kept-intake : (t area : List ℕ) → Kept (intake t (length area)) area
+unfolding intake
+kept-intake t area = kept (intake t (length area)) area (λ out e. fits out e)
+  where
+    fits : (out : List ℕ) → intake t (length area) ≡ accept out → length out ≤ length area
+    fits out e =
+        let p = passed (leb 73 (length area)) _ (meaningOfText t >>= λ m. accept (textOf m)) e in
+        let a = answered (meaningOfText t) (λ m. accept (textOf m)) (p .1) in
+        let s : length (textOf (a .0)) ≤ 73 = short (a .0) (meant t (a .0) (a .1)) in
+        let l : 73 ≤ length area = leb-true 73 (length area) (p .0) in
+        let n : length (textOf (a .0)) ≤ length area = omega arith in
+        subst (λ (o : List ℕ). length o ≤ length area) (accept-inj (a .2)) n
+
+-- ---- demand 1
+
+either-way : {A : Type 0} (x : Answer A) → ((a : A) × (x ≡ accept a)) ⊎ ((q : Refusal) × (x ≡ refuse q))
+either-way (accept a) = inl (a, refl)
+either-way (refuse q) = inr (q, refl)
+
+pub demand1 : Demand1
+demand1 =
+    record {
+      answers = either-way;
+      intakeTests = λ t area. exactly _ _ (intake-by t area);
+      strictTests = λ t. exactly _ _ (strict-by t);
+      base32ReadTests = λ t area. exactly _ _ (read-by t area);
+      base32WriteTests = λ bs area. exactly _ _ (write-by bs area);
+      headerReadTests = λ bs. exactly _ _ (header-by bs);
+      headerWriteTests = λ h area. exactly _ _ (header-write-by h area);
+      unitReadTests = λ bs. exactly _ _ (unit-by bs);
+      unitWriteTests = λ h body area. exactly _ _ (unit-write-by h body area);
+      joinTests = λ bs area b. exactly _ _ (join-by bs area b);
+      splitTests = λ bs area. exactly _ _ (split-by bs area);
+      distanceTests = λ x y. exactly _ _ (distance-by x y);
+      intakeArea = kept-intake;
+      base32ReadArea = λ t area. kept-into (decode base32 t) area;
+      base32WriteArea = λ bs area. kept-into (accept (encode base32 bs)) area;
+      headerWriteArea = λ h area. kept-into (rawHeader h) area;
+      unitWriteArea = λ h body area. kept-into (unitBytes h body) area;
+      joinArea = λ bs area. kept-into (joinedBytes bs) area;
+      splitArea = λ bs area. kept-into (splitBytes bs) area;
+    }
+
+-- ---- demand 2
+
+unit-back : (h : Header) (body out rest : List ℕ) → Below 256 body → unitBytes h body ≡ accept out → UnitBack h body out rest
+unit-back h body out rest k e =
+    let w : UnitWritten h body out = unit-written h body out k e in
+    record { item = w .item; read = same out (w .item) (w .bytes) (w .permitted); header = w .header; bodyIs = w .bodyIs }
+  where
+    same : (out : List ℕ) (i : Item) → out ≡ itemBytes i → PermittedItem i → readItem (out ++ rest) ≡ accept (record { result = i; used = length out })
+    same out i b p = rw b (read-item i rest p)
+
+items-permitted : (ms : List Meaning) → demands.AllPermitted ms → AllPermitted (map itemOf ms)
+items-permitted [] p = tt
+items-permitted (m ∷ ms) p = (item-permitted m (p .0), items-permitted ms (p .1))
+
+laid-rest : (m : Meaning) (ms : List Meaning) → itemsBytes (map itemOf (m ∷ ms)) ≡ itemBytes (itemOf m) ++ itemsBytes (map itemOf ms)
+unfolding itemsBytes
+laid-rest m ms = refl
+
+split-order : (s v : ℕ) (me se co : Option (List ℕ)) (da ins : List ℕ) (is : List Item) → Permitted (composite s v me se co da ins)
+    → unitsOf (composite s v me se co da ins) ≡ accept is
+    → (splitBytes (itemBytes (itemOf (composite s v me se co da ins))) ≡ accept (itemsBytes is)) × (readItems (itemsBytes is) ≡ accept is)
+unfolding unitsOf
+split-order s v me se co da ins is p e =
+    let w = splits s v me se co da ins p in
+    subst (λ (js : List Item). (splitBytes (itemBytes (itemOf (composite s v me se co da ins))) ≡ accept (itemsBytes js)) × (readItems (itemsBytes js) ≡ accept js)) (accept-inj e) (w .parts, w .read)
+
+-- what split writes is the units of a permitted composite, whose bytes were read
+split-join : (bs out : List ℕ) → Below 256 bs → splitBytes bs ≡ accept out → joinedBytes out ≡ accept bs
+unfolding splitBytes unitsOf
+split-join bs out k e =
+    let a = answered (readOne bs) _ e in
+    let o = one-read bs (a .0) k (a .1) in
+    let b = answered (unitsOf (meaningOf (a .0))) (λ is. accept (itemsBytes is)) (a .2) in
+    go (meaningOf (a .0)) (meant-item (a .0) (o .0)) (ap itemBytes (item-back (a .0) (o .0)) ∙ o .1) (b .0) (b .1) (accept-inj (b .2))
+  where
+    go : (m : Meaning) → Permitted m → itemBytes (itemOf m) ≡ bs → (is : List Item) → unitsOf m ≡ accept is → itemsBytes is ≡ out → joinedBytes out ≡ accept bs
+    go (unit m s v body) p w is u q = absurd (never u)
+    go (composite s v me se co da ins) p w is u q =
+        let x = splits s v me se co da ins p in
+        let y : itemsBytes _ ≡ out = ap itemsBytes (accept-inj u) ∙ q in
+        ap joinedBytes (sym y) ∙ x .whole ∙ ap accept w
+
+exact : (n : ℕ) → (n ≡ 32) ⊎ (n ≡ 64) ⊎ (n ≡ 128) ⊎ (n ≡ 256) → (d : ℕ) → d ≤ n
+    → eq (mul binary32 (ratioOf d n) (ofInt binary32 (pos n))) (ofInt binary32 (pos d)) ≡ true
+exact n (inl e) d h = rw e (exact-32 d (rw e at h))
+exact n (inr (inl e)) d h = rw e (exact-64 d (rw e at h))
+exact n (inr (inr (inl e))) d h = rw e (exact-128 d (rw e at h))
+exact n (inr (inr (inr e))) d h = rw e (exact-256 d (rw e at h))
+
+pub demand2 : Demand2
+unfolding base32
+demand2 =
+    record {
+      base32Back = decode-encode base32 sound32;
+      varnibbleBack = λ n rest h. rw (length-varnibble n) (read-varnibble n rest h);
+      headerBack = λ h rest w. read-header h rest w;
+      unitBack = unit-back;
+      codeBack = λ m rest p. read-item (itemOf m) rest (item-permitted m p);
+      codeMeans = meaning-back;
+      joinBack = λ bs out k e. let j = join-makes bs out k e in record { meaning = j .meaning; permitted = j .permitted; read = j .back; bytes = j .bytes };
+      base32Again = λ t bs e. encode-decode base32 sound32 t bs e .again;
+      varnibbleAgain = λ ns g b e. varnibble-read ns g b e .again;
+      headerAgain = λ bs g b e. header-read bs g b e .again;
+      unitAgain = λ bs g b e. item-read bs g b e .again;
+      unitsAgain = λ bs is b e. items-read bs is b e .again;
+      laidEnd = λ m ms p. read-items (itemOf m) (map itemOf ms) (items-permitted (m ∷ ms) p);
+      oneByOne =
+          λ m ms p. (
+            ap readItem (laid-rest m ms) ∙ read-item (itemOf m) (itemsBytes (map itemOf ms)) (item-permitted m p),
+            ap (drop (length (itemBytes (itemOf m)))) (laid-rest m ms) ∙ drop-append-seam (itemBytes (itemOf m)) (itemsBytes (map itemOf ms)),
+          );
+      splitOrder = split-order;
+      splitJoin = split-join;
+      digitsBack = λ v p m bs b. from-to v p m bs b;
+      distanceBounds = λ x y r b e. let w = bounded x y r b e in (w .apart, w .most);
+      distanceExact = exact;
+    }
