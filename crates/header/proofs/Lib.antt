@@ -2,3 +2,4 @@
 pub mod Cases
 pub mod Nibbles
 pub mod Read
+pub mod Bounds
