@@ -24,6 +24,7 @@ pub record NumberBounds (ns : List ℕ) (g : Parsed ℕ) : Type 0 where
   pub most : g .used ≤ 4
   pub within : g .used ≤ length ns
   pub small : g .result ≤ 4679
+  pub short : g .result < 8 → g .used ≡ 1
 
 row-cases : (P : ℕ → Type 0) → P 1 → P 2 → P 3 → P 4 → (a b c : Bool) → P (cond a 1 (cond b 2 (cond c 3 4)))
 row-cases P p q r s true b c = p
@@ -31,11 +32,15 @@ row-cases P p q r s false true c = q
 row-cases P p q r s false false true = r
 row-cases P p q r s false false false = s
 
-row-bounds : (h v : ℕ) → (1 ≤ rowBy h) × (rowBy h ≤ 4) × (firstOf (rowBy h) + v % 2 ^ (3 * rowBy h) ≤ 4679)
+row-bounds : (h v : ℕ) → (1 ≤ rowBy h) × (rowBy h ≤ 4) × (firstOf (rowBy h) + v % 2 ^ (3 * rowBy h) ≤ 4679) × (firstOf (rowBy h) + v % 2 ^ (3 * rowBy h) < 8 → rowBy h ≡ 1)
 unfolding rowBy firstOf
 row-bounds h v =
-    row-cases (λ k. (1 ≤ k) × (k ≤ 4) × (firstOf k + v % 2 ^ (3 * k) ≤ 4679))
-    (omega arith) (omega arith) (omega arith) (omega arith) (ltb h 8) (ltb h 12) (ltb h 14)
+    row-cases (λ k. (1 ≤ k) × (k ≤ 4) × (firstOf k + v % 2 ^ (3 * k) ≤ 4679) × (firstOf k + v % 2 ^ (3 * k) < 8 → k ≡ 1))
+    (omega arith, omega arith, omega arith, λ _. refl)
+    (omega arith, omega arith, omega arith, λ x. absurd (omega arith))
+    (omega arith, omega arith, omega arith, λ x. absurd (omega arith))
+    (omega arith, omega arith, omega arith, λ x. absurd (omega arith))
+    (ltb h 8) (ltb h 12) (ltb h 14)
 
 pub number-bounds : (ns : List ℕ) (g : Parsed ℕ) → readVarnibble ns ≡ accept g → NumberBounds ns g
 unfolding readVarnibble
@@ -46,7 +51,7 @@ number-bounds ns g e =
     let p₃ = passed (leb (rowBy h) (length ns)) _ _ (p₂ .1) in
     let b = row-bounds h (value 4 (take (rowBy h) ns)) in
     subst (NumberBounds ns) (accept-inj (p₃ .1))
-    (record { some = b .0; most = b .1; within = leb-true (rowBy h) (length ns) (p₃ .0); small = b .2 })
+    (record { some = b .0; most = b .1; within = leb-true (rowBy h) (length ns) (p₃ .0); small = b .2; short = b .3 })
 
 -- a header that was read
 pub record HeaderBounds (bs : List ℕ) (g : Parsed iscc.Header) : Type 0 where
@@ -54,6 +59,7 @@ pub record HeaderBounds (bs : List ℕ) (g : Parsed iscc.Header) : Type 0 where
   pub most : g .used ≤ 8
   pub within : g .used ≤ length bs
   pub numbers : Writable (g .result)
+  pub short : g .result .mainType < 8 → g .result .subtype < 8 → g .result .version < 8 → g .result .lengthNo < 8 → g .used ≡ 2
 
 pub header-bounds : (bs : List ℕ) (g : Parsed iscc.Header) → readHeader bs ≡ accept g → HeaderBounds bs g
 unfolding readHeader
@@ -71,7 +77,7 @@ header-bounds bs g e =
     let bd = number-bounds (drop (a .0 .used + b .0 .used + c .0 .used) ns) (d .0) (d .1) in
     let l : n ≤ length ns = omega (arith, rw length-drop at (bd .within)) in
     subst (HeaderBounds bs) (accept-inj (p .1))
-    (record { least = omega arith; most = omega arith; within = omega (arith, length-nibbles bs); numbers = (ba .small, bb .small, bc .small, bd .small) })
+    (record { least = omega arith; most = omega arith; within = omega (arith, length-nibbles bs); numbers = (ba .small, bb .small, bc .small, bd .small); short = λ x y z w. omega (arith, ba .short x, bb .short y, bc .short z, bd .short w) })
 
 -- the definitions' value behind a header in the code
 abbrev pub parsedFrom : RawHeader → Parsed iscc.Header
