@@ -91,10 +91,10 @@ one-test false r m b x = refl
 
 unit-bytes-by : (h : Header) (body : List ℕ)
     → By
-      (once notPermitted (ltb (h .mainType) 7 && (isUnit (typeOf (h .mainType)) && permits (typeOf (h .mainType)) (h .subtype) (h .version) (h .lengthNo)))
-      ∷ once shortBody (leb (bodyBytes (typeOf (h .mainType)) (h .subtype) (h .lengthNo)) (length body))
-      ∷ [])
-      (unitBytes h body)
+    (once notPermitted (ltb (h .mainType) 7 && (isUnit (typeOf (h .mainType)) && permits (typeOf (h .mainType)) (h .subtype) (h .version) (h .lengthNo)))
+    ∷ once shortBody (leb (bodyBytes (typeOf (h .mainType)) (h .subtype) (h .lengthNo)) (length body))
+    ∷ [])
+    (unitBytes h body)
 unfolding unitBytes mainTypeOf
 unit-bytes-by h body =
     subst (By _)

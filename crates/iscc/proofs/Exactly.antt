@@ -33,10 +33,10 @@ first-one (s ∷ ss) n k m j (inl x) (inl y) =
     elim (decLt k j) [
       | yes l ↦ absurd (holds-broken s k n (y .0 k l) (x .1))
       | no p ↦
-        elim (decLt j k) [
-          | yes l ↦ absurd (holds-broken s j m (x .0 j l) (y .1))
-          | no q ↦ broken-one s k n m (x .1) (subst (λ (i : ℕ). BrokenAt s m i) (same k j p q) (y .1))
-        ]
+          elim (decLt j k) [
+            | yes l ↦ absurd (holds-broken s j m (x .0 j l) (y .1))
+            | no q ↦ broken-one s k n m (x .1) (subst (λ (i : ℕ). BrokenAt s m i) (same k j p q) (y .1))
+          ]
     ]
   where
     same : (k j : ℕ) → (k < j → ⊥) → (j < k → ⊥) → j ≡ k

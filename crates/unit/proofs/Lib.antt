@@ -2,3 +2,4 @@
 pub mod Table
 pub mod Read
 pub mod Bounds
+pub mod Sole

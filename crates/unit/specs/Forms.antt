@@ -1,6 +1,7 @@
 -- The code's types (src/) as forms of the definitions' values. Assumes nothing.
 use Prim.Native.Nat.{ℕ, _-_}
 use mathlib.Core.Bool.{Bool, _&&_}
+use mathlib.Core.List.{List}
 use lib.Dec.{ltb}
 use lib.ListN.{length}
 use Rattle.iscc.specs.Answer.{Answer, accept, refuse}
@@ -33,3 +34,8 @@ unitAs g =
 abbrev pub unitReadAs : Answer (Parsed Item) → UnitRead
 unitReadAs (accept g) = read.Unit (unitAs g)
 unitReadAs (refuse q) = read.Refused q
+
+-- the answer of the reader of exactly one: it uses all the bytes
+abbrev pub oneReadAs : List ℕ → Answer Item → UnitRead
+oneReadAs bs (accept i) = read.Unit (unitAs (record { result = i; used = length bs }))
+oneReadAs bs (refuse q) = read.Refused q

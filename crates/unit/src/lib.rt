@@ -1,3 +1,4 @@
 // Single units: which headers are permitted, and the reader of one unit or composite.
+pub mod one;
 pub mod permitted;
 pub mod reader;
