@@ -77,7 +77,7 @@ unfolding upTo ratioOf mul div ofInt eq
 exact-256 d h = at 257 (exactAt 256) refl d (omega arith)
 
 -- n is at most 256: a body of META, SEMANTIC, CONTENT or DATA is at most 32 bytes
-body-32 : (m : MainType) (s v l : ℕ) → number m ≤ 3 → permits m s v l ≡ true → bodyBytes m s l ≤ 32
+pub body-32 : (m : MainType) (s v l : ℕ) → number m ≤ 3 → permits m s v l ≡ true → bodyBytes m s l ≤ 32
 unfolding bodyBytes
 body-32 META s v l n p = let h : Small s v l = small META s v l p in omega arith
 body-32 SEMANTIC s v l n p = let h : Small s v l = small SEMANTIC s v l p in omega arith

@@ -14,6 +14,7 @@ pub mod Items
 pub mod Split
 pub mod Order
 pub mod Distance
+pub mod Bits
 pub mod Text
 pub mod Area
 pub mod Demand3

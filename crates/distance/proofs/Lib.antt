@@ -1,0 +1,2 @@
+-- The laws that carry the definition of the distance to the code.
+pub mod Laws

@@ -1,0 +1,4 @@
+// The distance of two units.
+pub mod answer;
+pub mod bits;
+pub mod units;

@@ -1,0 +1,103 @@
+-- The bits in which two numbers differ, by the count of ones of their exclusive or: once over the width, so that bytes and words
+-- are counted alike. Assumes nothing.
+use Prim.Native.Nat.{ℕ, zero, suc, _+_, _*_, _/_, _%_, _^_, min, _≤_, _<_}
+use mathlib.Core.Path.{_≡_, refl, sym, _∙_, ap}
+use mathlib.Core.Bool.{cond}
+use mathlib.Core.List.{List, [], _∷_, _++_}
+use native.Mathlib.Nat.{mod-lt, mod-eq-of-lt, mod-one, add-assoc, one-mul, suc-inj, suc-min-suc, not-suc-le-zero, le-of-suc-le-suc}
+use native.Mathlib.Numerals.{add-one}
+use native.Mathlib.Omega.{arith}
+use lib.ListN.{length, take, getD}
+use lib.Seq.{take-suc, length-take-le}
+use lib.Bits.{bitXor, xor-lt, xor-block}
+use lib.Count.{ones, onesIn, ones-le, ones-cat}
+use lib.Pow.{pow-pos, mod-pow-add}
+use lib.Dec.{eqb, lit<}
+use Rattle.iscc.specs.Digits.{digits}
+use Rattle.iscc.specs.Distance.{bitsOf, differingPlaces, differingBits}
+use Rattle.iscc.proofs.Digits.{length-digits}
+
+-- a bit is 0 or 1
+two : (P : ℕ → Type 0) (n : ℕ) → n < 2 → P 0 → P 1 → P n
+two P zero h a b = a
+two P (suc zero) h a b = b
+two P (suc (suc n)) h a b = absurd (not-suc-le-zero (le-of-suc-le-suc (le-of-suc-le-suc h)))
+
+one-bit : (x y : ℕ) → x < 2 → y < 2 → ones (bitXor x y) ≡ cond (eqb x y) 0 1
+unfolding ones onesIn
+one-bit x y hx hy =
+    two (λ x. ones (bitXor x y) ≡ cond (eqb x y) 0 1) x hx
+    (two (λ y. ones (bitXor 0 y) ≡ cond (eqb 0 y) 0 1) y hy refl refl)
+    (two (λ y. ones (bitXor 1 y) ≡ cond (eqb 1 y) 0 1) y hy refl refl)
+
+zero-ones : ones 0 ≡ 0
+unfolding ones onesIn
+zero-ones = refl
+
+one-more : (n : ℕ) → suc n ≡ 1 + n
+one-more n = omega arith
+
+-- the n low bits
+pub ones-differ : (n x y : ℕ) → ones (bitXor (x % 2 ^ n) (y % 2 ^ n)) ≡ differingPlaces (digits 1 n x) (digits 1 n y)
+unfolding digits differingPlaces
+ones-differ zero x y = rw (mod-one x, mod-one y) zero-ones
+ones-differ (suc n) x y =
+    let hx : ℕ = x / 2 ^ n % 2 in
+    let hy : ℕ = y / 2 ^ n % 2 in
+    let rx : x % 2 ^ n < 2 ^ n = mod-lt x (pow-pos n) in
+    let ry : y % 2 ^ n < 2 ^ n = mod-lt y (pow-pos n) in
+    let ex : x % 2 ^ suc n ≡ hx * 2 ^ n + x % 2 ^ n = ap (λ (k : ℕ). x % 2 ^ k) (one-more n) ∙ mod-pow-add x 1 n in
+    let ey : y % 2 ^ suc n ≡ hy * 2 ^ n + y % 2 ^ n = ap (λ (k : ℕ). y % 2 ^ k) (one-more n) ∙ mod-pow-add y 1 n in
+    rw (ex, ey, one-mul n, xor-block n hx hy (x % 2 ^ n) (y % 2 ^ n) rx ry)
+    (ones-cat n (bitXor hx hy) (bitXor (x % 2 ^ n) (y % 2 ^ n)) (xor-lt n (x % 2 ^ n) (y % 2 ^ n) rx ry)
+    ∙ rw (one-bit hx hy (mod-lt (x / 2 ^ n) (lit< tt)) (mod-lt (y / 2 ^ n) (lit< tt)), ones-differ n x y))
+
+-- bytes
+pub ones-bytes : (x y : ℕ) → x < 2 ^ 8 → y < 2 ^ 8 → ones (bitXor x y) ≡ differingPlaces (digits 1 8 x) (digits 1 8 y)
+ones-bytes x y hx hy = let e = ones-differ 8 x y in rw (mod-eq-of-lt hx, mod-eq-of-lt hy) at e
+
+pub ones-most : (w x y : ℕ) → x < 2 ^ w → y < 2 ^ w → ones (bitXor x y) ≤ w
+ones-most w x y hx hy = ones-le w (bitXor x y) (xor-lt w x y hx hy)
+
+-- ---- two lists of bytes, a byte of each at a time
+
+places-append : (xs ys us vs : List ℕ) → length xs ≡ length ys → differingPlaces (xs ++ us) (ys ++ vs) ≡ differingPlaces xs ys + differingPlaces us vs
+unfolding differingPlaces
+places-append [] [] us vs h = omega arith
+places-append [] (y ∷ ys) us vs h = omega (arith, h)
+places-append (x ∷ xs) [] us vs h = omega (arith, h)
+places-append (x ∷ xs) (y ∷ ys) us vs h =
+    ap (λ (k : ℕ). cond (eqb x y) 0 1 + k) (places-append xs ys us vs (suc-inj h)) ∙ sym (add-assoc (cond (eqb x y) 0 1) (differingPlaces xs ys) (differingPlaces us vs))
+
+differ-cons : (x y : ℕ) (xs ys : List ℕ) → differingBits (x ∷ xs) (y ∷ ys) ≡ differingPlaces (digits 1 8 x) (digits 1 8 y) + differingBits xs ys
+unfolding differingBits bitsOf
+differ-cons x y xs ys = places-append (digits 1 8 x) (digits 1 8 y) (bitsOf xs) (bitsOf ys) (length-digits 1 8 x ∙ sym (length-digits 1 8 y))
+
+pub differ-none : (ys : List ℕ) → differingBits [] ys ≡ 0
+unfolding differingBits bitsOf differingPlaces
+differ-none ys = refl
+
+differ-none′ : (xs : List ℕ) → differingBits xs [] ≡ 0
+unfolding differingBits bitsOf differingPlaces
+differ-none′ xs = go (bitsOf xs)
+  where
+    go : (bs : List ℕ) → differingPlaces bs [] ≡ 0
+    go [] = refl
+    go (b ∷ bs) = refl
+
+-- one more byte of each
+pub differ-next : (xs ys : List ℕ) (i : ℕ) → i < length xs → i < length ys
+    → differingBits (take (i + 1) xs) (take (i + 1) ys) ≡ differingBits (take i xs) (take i ys) + differingPlaces (digits 1 8 (getD xs i 0)) (digits 1 8 (getD ys i 0))
+differ-next [] ys i hx hy = absurd (not-suc-le-zero hx)
+differ-next (x ∷ xs) [] i hx hy = absurd (not-suc-le-zero hy)
+differ-next (x ∷ xs) (y ∷ ys) zero hx hy = differ-cons x y [] [] ∙ rw (differ-none []) (omega arith)
+differ-next (x ∷ xs) (y ∷ ys) (suc i) hx hy =
+    let r = differ-next xs ys i (le-of-suc-le-suc hx) (le-of-suc-le-suc hy) in
+    let e : suc i + 1 ≡ suc (i + 1) = omega arith in
+    rw (e, differ-cons x y (take (i + 1) xs) (take (i + 1) ys), r, differ-cons x y (take i xs) (take i ys)) (sym (add-assoc _ _ _))
+
+-- as far as the shorter goes
+pub differ-all : (xs ys : List ℕ) → differingBits (take (min (length xs) (length ys)) xs) (take (min (length xs) (length ys)) ys) ≡ differingBits xs ys
+differ-all [] ys = let e : min 0 (length ys) ≡ 0 = omega arith in rw e (differ-none [] ∙ sym (differ-none ys))
+differ-all (x ∷ xs) [] = let e : min (suc (length xs)) 0 ≡ 0 = omega arith in rw e (differ-none [] ∙ sym (differ-none′ (x ∷ xs)))
+differ-all (x ∷ xs) (y ∷ ys) = rw (suc-min-suc (length xs) (length ys), differ-cons x y (take (min (length xs) (length ys)) xs) (take (min (length xs) (length ys)) ys), differ-all xs ys) (sym (differ-cons x y xs ys))
