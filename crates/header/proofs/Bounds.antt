@@ -16,7 +16,7 @@ use Rattle.iscc.proofs.Answer.{passed, answered, accept-inj}
 use Rattle.iscc.proofs.Header.{Writable, length-nibbles}
 use Rattle.header.specs.declared.reader.RawHeader.{RawHeader}
 use Rattle.header.specs.declared.reader.HeaderRead.the-variants.{Header}
-use Rattle.header.specs.Forms.{rawHeaderAs, headerReadAs}
+use Rattle.header.specs.Forms.{headerFrom, rawHeaderAs, headerReadAs}
 
 -- a varnibble that was read
 pub record NumberBounds (ns : List ℕ) (g : Parsed ℕ) : Type 0 where
@@ -61,6 +61,27 @@ pub record HeaderBounds (bs : List ℕ) (g : Parsed iscc.Header) : Type 0 where
   pub numbers : Writable (g .result)
   pub short : g .result .mainType < 8 → g .result .subtype < 8 → g .result .version < 8 → g .result .lengthNo < 8 → g .used ≡ 2
 
+-- four varnibbles that were read, one behind the other
+module _ (bs : List ℕ) (a b c d : Parsed ℕ) where
+  abbrev four : ℕ
+  four = a .used + b .used + c .used + d .used
+
+  abbrev fourOf : Parsed iscc.Header
+  fourOf = record { result = record { mainType = a .result; subtype = b .result; version = c .result; lengthNo = d .result }; used = (four + 1) / 2 }
+
+  four-bounds : NumberBounds (nibbles bs) a → NumberBounds (drop (a .used) (nibbles bs)) b → NumberBounds (drop (a .used + b .used) (nibbles bs)) c
+      → NumberBounds (drop (a .used + b .used + c .used) (nibbles bs)) d → HeaderBounds bs fourOf
+  four-bounds p q r s =
+      let last : d .used ≤ length (nibbles bs) - (a .used + b .used + c .used) = rw length-drop at (s .within) in
+      let len : length (nibbles bs) ≡ 2 * length bs = length-nibbles bs in
+      record {
+        least = omega (arith, p .some, q .some, r .some, s .some);
+        most = omega (arith, p .most, q .most, r .most, s .most);
+        within = omega (arith, s .some);
+        numbers = (p .small, q .small, r .small, s .small);
+        short = λ x y z w. omega (arith, p .short x, q .short y, r .short z, s .short w);
+      }
+
 pub header-bounds : (bs : List ℕ) (g : Parsed iscc.Header) → readHeader bs ≡ accept g → HeaderBounds bs g
 unfolding readHeader
 header-bounds bs g e =
@@ -69,23 +90,15 @@ header-bounds bs g e =
     let b = answered (readVarnibble (drop (a .0 .used) ns)) _ (a .2) in
     let c = answered (readVarnibble (drop (a .0 .used + b .0 .used) ns)) _ (b .2) in
     let d = answered (readVarnibble (drop (a .0 .used + b .0 .used + c .0 .used) ns)) _ (c .2) in
-    let n : ℕ = a .0 .used + b .0 .used + c .0 .used + d .0 .used in
+    let n : ℕ = four bs (a .0) (b .0) (c .0) (d .0) in
     let p = passed (eqb (n % 2) 0 || eqb (getD ns n 0) 0) _ _ (d .2) in
-    let ba = number-bounds ns (a .0) (a .1) in
-    let bb = number-bounds (drop (a .0 .used) ns) (b .0) (b .1) in
-    let bc = number-bounds (drop (a .0 .used + b .0 .used) ns) (c .0) (c .1) in
-    let bd = number-bounds (drop (a .0 .used + b .0 .used + c .0 .used) ns) (d .0) (d .1) in
-    let l : n ≤ length ns = omega (arith, rw length-drop at (bd .within)) in
     subst (HeaderBounds bs) (accept-inj (p .1))
-    (record { least = omega arith; most = omega arith; within = omega (arith, length-nibbles bs); numbers = (ba .small, bb .small, bc .small, bd .small); short = λ x y z w. omega (arith, ba .short x, bb .short y, bc .short z, bd .short w) })
+    (four-bounds bs (a .0) (b .0) (c .0) (d .0) (number-bounds ns (a .0) (a .1)) (number-bounds (drop (a .0 .used) ns) (b .0) (b .1))
+    (number-bounds (drop (a .0 .used + b .0 .used) ns) (c .0) (c .1)) (number-bounds (drop (a .0 .used + b .0 .used + c .0 .used) ns) (d .0) (d .1)))
 
 -- the definitions' value behind a header in the code
 abbrev pub parsedFrom : RawHeader → Parsed iscc.Header
-parsedFrom h =
-    record {
-      result = record { mainType = h .header .«main_type»; subtype = h .header .subtype; version = h .header .version; lengthNo = h .header .length };
-      used = h .used;
-    }
+parsedFrom h = record { result = headerFrom (h .header); used = h .used }
 
 pub read-as : (r : Answer (Parsed iscc.Header)) (h : RawHeader) → headerReadAs r ≡ Header h → r ≡ accept (parsedFrom h)
 read-as (accept g) h e = let s : rawHeaderAs g ≡ h = cc in ap (λ (x : RawHeader). accept (parsedFrom x)) s
