@@ -120,7 +120,8 @@ fn report(tally: &mut Tally, call: Call, outcome: &Outcome) {
         return tally.check(&name, false, outcome.differences.join("\n"));
     }
     // Cases that never bring out a refusal would test nothing of it.
-    let few: Vec<u32> = call.numbers().iter().copied().filter(|&n| outcome.seen[n as usize] * 100_000 < outcome.cases).collect();
+    let few: Vec<u32> =
+        call.numbers().iter().copied().filter(|&n| outcome.seen[n as usize] * 100_000 < outcome.cases).collect();
     if !few.is_empty() && outcome.cases > 1 {
         return tally.check(&name, false, format!("the cases hardly reach {few:?}"));
     }

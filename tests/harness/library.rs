@@ -40,14 +40,7 @@ extern "C" {
     fn probe_join(bytes: *const u8, bytes_len: usize, out: *mut u8, out_len: usize) -> Written;
     fn probe_split(bytes: *const u8, bytes_len: usize, out: *mut u8, out_len: usize) -> Written;
     fn probe_header_read(bytes: *const u8, bytes_len: usize) -> HeaderAnswer;
-    fn probe_header_write(
-        main_type: u32,
-        subtype: u32,
-        version: u32,
-        length: u32,
-        out: *mut u8,
-        out_len: usize,
-    ) -> Written;
+    fn probe_header_write(main_type: u32, subtype: u32, version: u32, length: u32, out: *mut u8, out_len: usize) -> Written;
     fn probe_unit_read(bytes: *const u8, bytes_len: usize) -> HeaderAnswer;
     fn probe_unit_write(
         main_type: u32,
@@ -167,9 +160,7 @@ unsafe fn enter(request: &Request, first: *const u8, second: *const u8, out: *mu
         Call::HeaderRead => read(probe_header_read),
         Call::HeaderWrite => written(probe_header_write(main_type, subtype, version, length, out, area)),
         Call::UnitRead => read(probe_unit_read),
-        Call::UnitWrite => {
-            written(probe_unit_write(main_type, subtype, version, length, second, second_len, out, area))
-        }
+        Call::UnitWrite => written(probe_unit_write(main_type, subtype, version, length, second, second_len, out, area)),
         Call::Join => write(probe_join),
         Call::Split => write(probe_split),
     }

@@ -58,7 +58,8 @@ impl Labels {
 
 fn varnibbles(labels: &mut Labels) {
     // Subtype, version and length 0 follow as three zero nibbles, and a pad nibble where they are odd in number.
-    let table = [(7, "7000"), (8, "800000"), (71, "bf0000"), (72, "c00000"), (583, "dff000"), (584, "e0000000"), (4679, "efff0000")];
+    let table =
+        [(7, "7000"), (8, "800000"), (71, "bf0000"), (72, "c00000"), (583, "dff000"), (584, "e0000000"), (4679, "efff0000")];
     for (number, bytes) in table {
         labels.header([number, 0, 0, 0], bytes);
     }
