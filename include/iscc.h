@@ -1,8 +1,8 @@
 /*
  * The C interface of the console: both doors and the distance between two units.
  *
- * Link target/staticlib/libconsole.a (`rt staticlib console`). The archive calls nothing of its own outside: no memory is
- * taken, nothing is kept between calls, and every entry may run in several threads at once.
+ * Link target/staticlib/libconsole.a (`rt staticlib console`). No memory is taken and nothing is kept
+ * between calls, so that every entry may run in several threads at once.
  *
  * Areas. An area is a pointer and a length in bytes. It must be as long as stated, and an area for writing must not overlap
  * one for reading; nothing else is taken on trust. A null pointer with length 0 is an empty area. Text is bytes: it needs
@@ -24,25 +24,25 @@ extern "C" {
 /* What a call answers: ISCC_OK or the number of a refusal. No call gives all of them; each names its own below. */
 enum iscc_number {
     ISCC_OK = 0,
-    ISCC_NOTHING_LEFT = 1,       /* nothing is left after blanks, scheme and hyphens are dropped */
-    ISCC_TEXT_TOO_LONG = 2,      /* the text is longer than 1,024 bytes */
-    ISCC_RUN_TOO_LONG = 3,       /* more than 80 characters are left */
-    ISCC_BAD_CHARACTER = 4,      /* a character is outside the alphabet: A to Z, a to z, 2 to 7 */
-    ISCC_BAD_COUNT = 5,          /* the count of characters leaves 1, 3 or 6 over a multiple of 8 */
-    ISCC_SPARE_BITS = 6,         /* a spare bit after the last whole byte is not zero */
-    ISCC_BAD_HEADER = 7,         /* a header is cut, has the prefix 1111, or a pad nibble that is not zero */
-    ISCC_NOT_PERMITTED = 8,      /* a header is not permitted */
-    ISCC_SHORT_BODY = 9,         /* fewer body bytes than the header says */
-    ISCC_NOT_JOINABLE = 10,      /* two or more items, one being a composite or an ID */
-    ISCC_NOT_64_BITS = 11,       /* a unit in a list is not of 64 bits */
-    ISCC_MAIN_TYPE_TWICE = 12,   /* a main type is twice in a list */
-    ISCC_NO_DATA_OR_INSTANCE = 13, /* a list lacks DATA or INSTANCE */
-    ISCC_SUBTYPES_DIFFER = 14,   /* SEMANTIC and CONTENT differ in subtype */
-    ISCC_AREA_TOO_SHORT = 15,    /* the output area is too short */
-    ISCC_OTHER_TEXT = 16,        /* strict door: intake accepts, but would write another text */
-    ISCC_NUMBER_TOO_LARGE = 17,  /* a number above 4679 to be written as a varnibble; by no call of this header */
-    ISCC_NO_DISTANCE = 18,       /* two units that have no distance */
-    ISCC_BYTES_LEFT_OVER = 19    /* bytes left over where exactly one unit is wanted */
+    ISCC_EMPTY_TEXT = 1,              /* nothing is left after blanks, scheme and hyphens are dropped */
+    ISCC_LONG_TEXT = 2,               /* the text is longer than 1,024 bytes */
+    ISCC_LONG_RUN = 3,                /* more than 80 characters are left */
+    ISCC_BAD_CHARACTER = 4,           /* a character is outside the alphabet: A to Z, a to z, 2 to 7 */
+    ISCC_BAD_COUNT = 5,               /* the count of characters leaves 1, 3 or 6 over a multiple of 8 */
+    ISCC_SPARE_BITS = 6,              /* a spare bit after the last whole byte is not zero */
+    ISCC_BAD_HEADER = 7,              /* a header is cut, has the prefix 1111, or a pad nibble that is not zero */
+    ISCC_NOT_PERMITTED = 8,           /* a header is not permitted */
+    ISCC_SHORT_BODY = 9,              /* fewer body bytes than the header says */
+    ISCC_NOT_JOINABLE = 10,           /* two or more items, one being a composite or an ID */
+    ISCC_NOT_64_BITS = 11,            /* a unit in a list is not of 64 bits */
+    ISCC_MAIN_TYPE_TWICE = 12,        /* a main type is twice in a list */
+    ISCC_LACKS_DATA_OR_INSTANCE = 13, /* a list lacks DATA or INSTANCE */
+    ISCC_SUBTYPES_DIFFER = 14,        /* SEMANTIC and CONTENT differ in subtype */
+    ISCC_AREA_TOO_SHORT = 15,         /* the output area is too short */
+    ISCC_OTHER_TEXT = 16,             /* strict door: intake accepts, but would write another text */
+    ISCC_NUMBER_TOO_LARGE = 17,       /* a number above 4679 to be written as a varnibble; by no call of this header */
+    ISCC_NO_DISTANCE = 18,            /* two units that have no distance */
+    ISCC_BYTES_LEFT_OVER = 19         /* bytes left over where exactly one unit is wanted */
 };
 
 /* The longest text that intake writes, and the least length of its output area. */

@@ -78,7 +78,7 @@ static void line_case(void) {
     written("IAAUVACQKXE3V44W-GAAW2PRCRS5LNVZV", "ISCC:KUAG2PRCRS5LNVZVJKAFAVOJXLZZM");
     written("iscc:maagztfqttvizpjr", "ISCC:MAAGZTFQTTVIZPJR");
     written("Iscc:Maagztfqttvizpjr", "ISCC:MAAGZTFQTTVIZPJR");
-    refused("", ISCC_NOTHING_LEFT);
+    refused("", ISCC_EMPTY_TEXT);
 }
 
 static void one_unit(void) {
@@ -94,9 +94,9 @@ static void short_texts(void) {
     refused("A", ISCC_BAD_COUNT);
     refused("A1", ISCC_BAD_CHARACTER);
     refused("AA", ISCC_BAD_HEADER);
-    refused("ISCC:", ISCC_NOTHING_LEFT);
-    refused("-", ISCC_NOTHING_LEFT);
-    refused("   ", ISCC_NOTHING_LEFT);
+    refused("ISCC:", ISCC_EMPTY_TEXT);
+    refused("-", ISCC_EMPTY_TEXT);
+    refused("   ", ISCC_EMPTY_TEXT);
 }
 
 /* The header 57 00 in base32 is K4AA; the longest composite fills the area of 73 bytes to its end. */
@@ -118,8 +118,8 @@ static void areas(void) {
         intake_bytes("A1", 2, too_short[i], ISCC_AREA_TOO_SHORT, NULL);
         intake_bytes("", 0, too_short[i], ISCC_AREA_TOO_SHORT, NULL);
     }
-    intake_bytes("", 0, ISCC_TEXT_AREA, ISCC_NOTHING_LEFT, NULL);
-    expect(iscc_strict(NULL, 0) == ISCC_NOTHING_LEFT, "another number", "null text");
+    intake_bytes("", 0, ISCC_TEXT_AREA, ISCC_EMPTY_TEXT, NULL);
+    expect(iscc_strict(NULL, 0) == ISCC_EMPTY_TEXT, "another number", "null text");
 }
 
 static void long_texts(void) {
@@ -127,12 +127,12 @@ static void long_texts(void) {
     memset(blanks, ' ', sizeof blanks);
     memset(hyphens, '-', sizeof hyphens);
     memset(letters, 'A', sizeof letters);
-    intake_bytes(blanks, 1024, ISCC_TEXT_AREA, ISCC_NOTHING_LEFT, NULL);
-    intake_bytes(blanks, 1025, ISCC_TEXT_AREA, ISCC_TEXT_TOO_LONG, NULL);
-    intake_bytes(hyphens, 1024, ISCC_TEXT_AREA, ISCC_NOTHING_LEFT, NULL);
+    intake_bytes(blanks, 1024, ISCC_TEXT_AREA, ISCC_EMPTY_TEXT, NULL);
+    intake_bytes(blanks, 1025, ISCC_TEXT_AREA, ISCC_LONG_TEXT, NULL);
+    intake_bytes(hyphens, 1024, ISCC_TEXT_AREA, ISCC_EMPTY_TEXT, NULL);
     intake_bytes(hyphens, 1025, 72, ISCC_AREA_TOO_SHORT, NULL);
     intake_bytes(letters, 80, ISCC_TEXT_AREA, ISCC_SHORT_BODY, NULL);
-    intake_bytes(letters, 81, ISCC_TEXT_AREA, ISCC_RUN_TOO_LONG, NULL);
+    intake_bytes(letters, 81, ISCC_TEXT_AREA, ISCC_LONG_RUN, NULL);
     memcpy(hyphens, "GAAW2PRCRS5LNVZV", 16);
     intake_bytes(hyphens, 1024, ISCC_TEXT_AREA, ISCC_OK, "ISCC:GAAW2PRCRS5LNVZV");
 }

@@ -4,6 +4,7 @@
 
 mod cases;
 mod codes;
+mod large;
 mod lines;
 mod random;
 mod texts;
@@ -63,7 +64,7 @@ fn options() -> Options {
 fn main() -> ExitCode {
     let options = options();
     println!("seed {}", options.seed);
-    let mut library = Library::new(1 << 18);
+    let mut library = Library::new(large::LONGEST);
     let mut tally = Tally::default();
     for (index, call) in Call::ALL.into_iter().enumerate() {
         let outcome = match &options.only {
@@ -74,6 +75,7 @@ fn main() -> ExitCode {
         report(&mut tally, call, &outcome);
     }
     if options.only.is_none() {
+        large(&mut tally, &mut library, options.seed);
         lines::check(&mut tally, options.lines.as_deref(), options.seed);
     }
     tally.finish()
@@ -95,6 +97,15 @@ fn compare(library: &mut Library, options: &Options, call: Call, index: usize, r
         }
     }
     outcome
+}
+
+/// Inputs of a mebibyte, a few for each call.
+fn large(tally: &mut Tally, library: &mut Library, seed: u64) {
+    let requests = large::requests(&mut Random::of_case(seed, u64::MAX, u64::MAX));
+    let mut random = Random::of_case(seed, u64::MAX, 0);
+    let difference = requests.iter().find_map(|request| one(library, request, &setting(&mut random)).err());
+    let detail = difference.clone().unwrap_or(format!("{} cases, no difference", requests.len()));
+    tally.check("compare large inputs", difference.is_none(), detail);
 }
 
 fn setting(random: &mut Random) -> Setting {
