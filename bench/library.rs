@@ -1,0 +1,52 @@
+//! The measured entries of the proved libraries, with the same signatures as the plain ones.
+
+#[repr(C)]
+struct Written {
+    number: u32,
+    length: usize,
+}
+
+#[repr(C)]
+struct DistanceAnswer {
+    number: u32,
+    d: u32,
+    n: u32,
+    ratio: f32,
+}
+
+extern "C" {
+    fn iscc_intake(text: *const u8, text_len: usize, out: *mut u8, out_len: usize) -> Written;
+    fn iscc_strict(text: *const u8, text_len: usize) -> u32;
+    fn iscc_distance(a: *const u8, a_len: usize, b: *const u8, b_len: usize) -> DistanceAnswer;
+    fn probe_base32_read(text: *const u8, text_len: usize, out: *mut u8, out_len: usize) -> Written;
+    fn probe_base32_write(bytes: *const u8, bytes_len: usize, out: *mut u8, out_len: usize) -> Written;
+    fn probe_join(bytes: *const u8, bytes_len: usize, out: *mut u8, out_len: usize) -> Written;
+}
+
+macro_rules! writers {
+    ($($name:ident = $entry:ident;)*) => {$(
+        pub fn $name(bytes: &[u8], out: &mut [u8]) -> (u32, usize) {
+            // Both areas are as long as said, and a shared and a unique borrow cannot overlap.
+            let answer = unsafe { $entry(bytes.as_ptr(), bytes.len(), out.as_mut_ptr(), out.len()) };
+            (answer.number, answer.length)
+        }
+    )*};
+}
+
+writers! {
+    intake = iscc_intake;
+    base32_read = probe_base32_read;
+    base32_write = probe_base32_write;
+    join = probe_join;
+}
+
+pub fn strict(text: &[u8]) -> u32 {
+    // The area is as long as said.
+    unsafe { iscc_strict(text.as_ptr(), text.len()) }
+}
+
+pub fn distance(a: &[u8], b: &[u8]) -> (u32, u32, u32, f32) {
+    // The areas are as long as said.
+    let answer = unsafe { iscc_distance(a.as_ptr(), a.len(), b.as_ptr(), b.len()) };
+    (answer.number, answer.d, answer.n, answer.ratio)
+}

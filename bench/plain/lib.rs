@@ -1,0 +1,13 @@
+//! The measured calls once more in plain Rust without proofs: what a careful programmer would write for speed. Nothing is
+//! allocated, areas are written once every test has passed, and answers are those of document 01.
+
+mod base32;
+mod distance;
+mod doors;
+mod items;
+mod join;
+
+pub use base32::{base32_read, base32_write};
+pub use distance::distance;
+pub use doors::{intake, strict};
+pub use join::join;

@@ -1,0 +1,92 @@
+/*
+ * The C interface of the console: both doors and the distance between two units.
+ *
+ * Link target/staticlib/libconsole.a (`rt staticlib console`). No memory is taken and nothing is kept
+ * between calls, so that every entry may run in several threads at once.
+ *
+ * Areas. An area is a pointer and a length in bytes. It must be as long as stated, and an area for writing must not overlap
+ * one for reading; nothing else is taken on trust. A null pointer with length 0 is an empty area. Text is bytes: it needs
+ * no NUL at its end, and none is written.
+ *   - Areas for reading keep their bytes.
+ *   - On success the answer's `length` bytes are written at the start of the output area; the bytes behind them keep theirs.
+ *   - A refusal leaves every byte of the output area, and every other number of the answer is zero.
+ */
+#ifndef ISCC_H
+#define ISCC_H
+
+#include <stddef.h>
+#include <stdint.h>
+
+#ifdef __cplusplus
+extern "C" {
+#endif
+
+/* What a call answers: ISCC_OK or the number of a refusal. No call gives all of them; each names its own below. */
+enum iscc_number {
+    ISCC_OK = 0,
+    ISCC_EMPTY_TEXT = 1,              /* nothing is left after blanks, scheme and hyphens are dropped */
+    ISCC_LONG_TEXT = 2,               /* the text is longer than 1,024 bytes */
+    ISCC_LONG_RUN = 3,                /* more than 80 characters are left */
+    ISCC_BAD_CHARACTER = 4,           /* a character is outside the alphabet: A to Z, a to z, 2 to 7 */
+    ISCC_BAD_COUNT = 5,               /* the count of characters leaves 1, 3 or 6 over a multiple of 8 */
+    ISCC_SPARE_BITS = 6,              /* a spare bit after the last whole byte is not zero */
+    ISCC_BAD_HEADER = 7,              /* a header is cut, has the prefix 1111, or a pad nibble that is not zero */
+    ISCC_NOT_PERMITTED = 8,           /* a header is not permitted */
+    ISCC_SHORT_BODY = 9,              /* fewer body bytes than the header says */
+    ISCC_NOT_JOINABLE = 10,           /* two or more items, one being a composite or an ID */
+    ISCC_NOT_64_BITS = 11,            /* a unit in a list is not of 64 bits */
+    ISCC_MAIN_TYPE_TWICE = 12,        /* a main type is twice in a list */
+    ISCC_LACKS_DATA_OR_INSTANCE = 13, /* a list lacks DATA or INSTANCE */
+    ISCC_SUBTYPES_DIFFER = 14,        /* SEMANTIC and CONTENT differ in subtype */
+    ISCC_AREA_TOO_SHORT = 15,         /* the output area is too short */
+    ISCC_OTHER_TEXT = 16,             /* strict door: intake accepts, but would write another text */
+    ISCC_NUMBER_TOO_LARGE = 17,       /* a number above 4679 to be written as a varnibble; by no call of this header */
+    ISCC_NO_DISTANCE = 18,            /* two units that have no distance */
+    ISCC_BYTES_LEFT_OVER = 19         /* bytes left over where exactly one unit is wanted */
+};
+
+/* The longest text that intake writes, and the least length of its output area. */
+#define ISCC_TEXT_AREA 73
+
+/* ISCC_OK and the count of bytes written, or a refusal and 0. */
+typedef struct {
+    uint32_t number;
+    size_t length;
+} iscc_written;
+
+/*
+ * ISCC_OK, the differing bits among the first n, the shorter body's bits n, and d / n rounded once to a float; or a
+ * refusal, 0, 0 and +0.0. d is at most n, and n at most 256. Where n is 32, 64, 128 or 256 the ratio is exact.
+ */
+typedef struct {
+    uint32_t number;
+    uint32_t d;
+    uint32_t n;
+    float ratio;
+} iscc_distance_answer;
+
+/*
+ * The intake door: reads a code as it was typed (blanks at both ends, the scheme in any letter case, hyphens, either case,
+ * units in any order) and writes its one text, `ISCC:` and capitals.
+ *
+ * Refusals, in the order of their tests: 15 where the area is below ISCC_TEXT_AREA bytes, whatever the text; 2, 1, 3, 4, 5,
+ * 6; then 7, 8, 9 for each unit from the left; then, for two or more items, 10 to 14.
+ */
+iscc_written iscc_intake(const uint8_t *text, size_t text_len, uint8_t *out, size_t out_len);
+
+/* The strict door: ISCC_OK exactly if intake would write this very text; else 2, 1, 3 to 14 as intake, then 16. */
+uint32_t iscc_strict(const uint8_t *text, size_t text_len);
+
+/*
+ * The distance between two units, each an area of its bytes (header and body, not text).
+ *
+ * Refusals: 7, 8, 9, 19 of the first area, the same of the second, then 18 unless both have the same main type of META,
+ * SEMANTIC, CONTENT and DATA and the same subtype.
+ */
+iscc_distance_answer iscc_distance(const uint8_t *a, size_t a_len, const uint8_t *b, size_t b_len);
+
+#ifdef __cplusplus
+}
+#endif
+
+#endif

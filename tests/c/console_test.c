@@ -1,0 +1,194 @@
+/* The three console entries as the console uses them: every area is a heap block of just its length, and answers are those
+ * of document 01. Built with the address and undefined behaviour checks of the compiler. */
+#include "iscc.h"
+
+#include <stdbool.h>
+#include <stdio.h>
+#include <stdlib.h>
+#include <string.h>
+
+static bool block_ok;
+static int passed;
+static int failed;
+
+static void expect(bool holds, const char *what, const char *of) {
+    if (holds) return;
+    block_ok = false;
+    printf("  %.40s: %s\n", of, what);
+}
+
+/* A heap block of just these bytes; null for none, which the calls take. */
+static uint8_t *copy_of(const void *bytes, size_t length) {
+    if (length == 0) return NULL;
+    uint8_t *copy = malloc(length);
+    if (copy == NULL) abort();
+    memcpy(copy, bytes, length);
+    return copy;
+}
+
+static bool all_are(const uint8_t *bytes, size_t length, uint8_t byte) {
+    for (size_t i = 0; i < length; i++)
+        if (bytes[i] != byte) return false;
+    return true;
+}
+
+/* Intake with an area of `area` bytes, which must answer `number` and, on success, write `due` and nothing behind it. */
+static void intake_bytes(const char *text, size_t length, size_t area, uint32_t number, const char *due) {
+    const uint8_t fills[] = {0x00, 0x5a, 0xff};
+    for (size_t i = 0; i < sizeof fills; i++) {
+        uint8_t *typed = copy_of(text, length);
+        uint8_t *out = area == 0 ? NULL : malloc(area);
+        if (area != 0) memset(out, fills[i], area);
+        iscc_written answer = iscc_intake(typed, length, out, area);
+        size_t due_length = number == 0 ? strlen(due) : 0;
+        expect(answer.number == number, "another number", text);
+        expect(answer.length == due_length, "another length", text);
+        if (answer.length == due_length && due_length <= area) {
+            if (due_length > 0) expect(memcmp(out, due, due_length) == 0, "another text", text);
+            expect(all_are(out + due_length, area - due_length, fills[i]), "a byte that must stay was changed", text);
+        }
+        if (length > 0) expect(memcmp(typed, text, length) == 0, "the text was changed", text);
+        free(typed);
+        free(out);
+    }
+}
+
+static uint32_t strict(const char *text) {
+    size_t length = strlen(text);
+    uint8_t *typed = copy_of(text, length);
+    uint32_t number = iscc_strict(typed, length);
+    free(typed);
+    return number;
+}
+
+static void written(const char *text, const char *due) {
+    intake_bytes(text, strlen(text), ISCC_TEXT_AREA, ISCC_OK, due);
+    intake_bytes(text, strlen(text), 100, ISCC_OK, due);
+    expect(strict(due) == ISCC_OK, "the strict door refuses the written text", due);
+    if (strcmp(text, due) != 0) expect(strict(text) == ISCC_OTHER_TEXT, "the strict door does not answer 16", text);
+}
+
+static void refused(const char *text, uint32_t number) {
+    intake_bytes(text, strlen(text), ISCC_TEXT_AREA, number, NULL);
+    expect(strict(text) == number, "the strict door answers another number", text);
+}
+
+static void line_case(void) {
+    written("GAAW2PRCRS5LNVZV-IAAUVACQKXE3V44W", "ISCC:KUAG2PRCRS5LNVZVJKAFAVOJXLZZM");
+    written("IAAUVACQKXE3V44W-GAAW2PRCRS5LNVZV", "ISCC:KUAG2PRCRS5LNVZVJKAFAVOJXLZZM");
+    written("iscc:maagztfqttvizpjr", "ISCC:MAAGZTFQTTVIZPJR");
+    written("Iscc:Maagztfqttvizpjr", "ISCC:MAAGZTFQTTVIZPJR");
+    refused("", ISCC_EMPTY_TEXT);
+}
+
+static void one_unit(void) {
+    written("GAAW2PRCRS5LNVZV", "ISCC:GAAW2PRCRS5LNVZV");
+    written(" \t\r\nGAAW2-PRCRS5LNVZV-\n", "ISCC:GAAW2PRCRS5LNVZV");
+    refused("GAAW2PRCRS5LNVZVGAAW2PRCRS5LNVZV", ISCC_MAIN_TYPE_TWICE);
+    refused("GAAW2PRCRS5LNVZV-MAAGZTFQTTVIZPJR", ISCC_NOT_JOINABLE);
+}
+
+static void short_texts(void) {
+    refused("ISCC", ISCC_SPARE_BITS);
+    refused("AB", ISCC_SPARE_BITS);
+    refused("A", ISCC_BAD_COUNT);
+    refused("A1", ISCC_BAD_CHARACTER);
+    refused("AA", ISCC_BAD_HEADER);
+    refused("ISCC:", ISCC_EMPTY_TEXT);
+    refused("-", ISCC_EMPTY_TEXT);
+    refused("   ", ISCC_EMPTY_TEXT);
+}
+
+/* The header 57 00 in base32 is K4AA; the longest composite fills the area of 73 bytes to its end. */
+static void headers(void) {
+    char longest[ISCC_TEXT_AREA + 1] = "ISCC:K4AA";
+    refused("K4AA", ISCC_NOT_PERMITTED);
+    memset(longest + 5, 'A', 68);
+    memcpy(longest + 5, "KADQ", 4);
+    longest[ISCC_TEXT_AREA] = 0;
+    written(longest, longest);
+    written(longest + 5, longest);
+}
+
+static void areas(void) {
+    const char *unit = "GAAW2PRCRS5LNVZV";
+    const size_t too_short[] = {0, 1, 21, 72};
+    for (size_t i = 0; i < sizeof too_short / sizeof *too_short; i++) {
+        intake_bytes(unit, strlen(unit), too_short[i], ISCC_AREA_TOO_SHORT, NULL);
+        intake_bytes("A1", 2, too_short[i], ISCC_AREA_TOO_SHORT, NULL);
+        intake_bytes("", 0, too_short[i], ISCC_AREA_TOO_SHORT, NULL);
+    }
+    intake_bytes("", 0, ISCC_TEXT_AREA, ISCC_EMPTY_TEXT, NULL);
+    expect(iscc_strict(NULL, 0) == ISCC_EMPTY_TEXT, "another number", "null text");
+}
+
+static void long_texts(void) {
+    char blanks[1025], hyphens[1025], letters[81];
+    memset(blanks, ' ', sizeof blanks);
+    memset(hyphens, '-', sizeof hyphens);
+    memset(letters, 'A', sizeof letters);
+    intake_bytes(blanks, 1024, ISCC_TEXT_AREA, ISCC_EMPTY_TEXT, NULL);
+    intake_bytes(blanks, 1025, ISCC_TEXT_AREA, ISCC_LONG_TEXT, NULL);
+    intake_bytes(hyphens, 1024, ISCC_TEXT_AREA, ISCC_EMPTY_TEXT, NULL);
+    intake_bytes(hyphens, 1025, 72, ISCC_AREA_TOO_SHORT, NULL);
+    intake_bytes(letters, 80, ISCC_TEXT_AREA, ISCC_SHORT_BODY, NULL);
+    intake_bytes(letters, 81, ISCC_TEXT_AREA, ISCC_LONG_RUN, NULL);
+    memcpy(hyphens, "GAAW2PRCRS5LNVZV", 16);
+    intake_bytes(hyphens, 1024, ISCC_TEXT_AREA, ISCC_OK, "ISCC:GAAW2PRCRS5LNVZV");
+}
+
+static iscc_distance_answer distance(const void *a, size_t a_len, const void *b, size_t b_len) {
+    uint8_t *first = copy_of(a, a_len), *second = copy_of(b, b_len);
+    iscc_distance_answer answer = iscc_distance(first, a_len, second, b_len);
+    expect(a_len == 0 || memcmp(first, a, a_len) == 0, "an area was changed", "distance");
+    expect(b_len == 0 || memcmp(second, b, b_len) == 0, "an area was changed", "distance");
+    free(first);
+    free(second);
+    return answer;
+}
+
+static void no_distance(const void *a, size_t a_len, const void *b, size_t b_len, uint32_t number, const char *of) {
+    iscc_distance_answer answer = distance(a, a_len, b, b_len);
+    uint32_t bits;
+    memcpy(&bits, &answer.ratio, sizeof bits);
+    expect(answer.number == number, "another number", of);
+    expect(answer.d == 0 && answer.n == 0 && bits == 0, "a refusal with something else than zeros", of);
+}
+
+static void distances(void) {
+    const uint8_t data[] = {0x30, 0, 0, 0, 0, 0}, other[] = {0x30, 0, 0xff, 0, 0, 1}, meta[] = {0, 0, 0, 0, 0, 0};
+    const uint8_t longer[] = {0x30, 1, 0xff, 0, 0, 1, 9, 9, 9, 9}, left_over[] = {0x30, 0, 0, 0, 0, 0, 0};
+    const uint8_t composite[] = {0x57, 0}, cut[] = {0x30, 0, 0, 0, 0}, instance[] = {0x40, 0, 0, 0, 0, 0};
+    iscc_distance_answer answer = distance(data, sizeof data, other, sizeof other);
+    expect(answer.number == ISCC_OK && answer.d == 9 && answer.n == 32, "not 9 of 32", "distance");
+    expect(answer.ratio == 0.28125f, "the ratio is not 0.28125", "distance");
+    answer = distance(data, sizeof data, longer, sizeof longer);
+    expect(answer.number == ISCC_OK && answer.d == 9 && answer.n == 32, "not the shorter body's bits", "distance");
+    no_distance(data, sizeof data, meta, sizeof meta, ISCC_NO_DISTANCE, "two main types");
+    no_distance(instance, sizeof instance, instance, sizeof instance, ISCC_NO_DISTANCE, "INSTANCE");
+    no_distance(NULL, 0, NULL, 0, ISCC_BAD_HEADER, "null areas");
+    no_distance(data, sizeof data, NULL, 0, ISCC_BAD_HEADER, "null second area");
+    no_distance(composite, sizeof composite, NULL, 0, ISCC_NOT_PERMITTED, "57 00");
+    no_distance(cut, sizeof cut, data, sizeof data, ISCC_SHORT_BODY, "cut");
+    no_distance(left_over, sizeof left_over, cut, sizeof cut, ISCC_BYTES_LEFT_OVER, "left over");
+}
+
+static void block(const char *name, void (*run)(void)) {
+    block_ok = true;
+    run();
+    printf("%s console, %s\n", block_ok ? "ok" : "FAILED", name);
+    if (block_ok) passed++;
+    else failed++;
+}
+
+int main(void) {
+    block("line case", line_case);
+    block("one unit", one_unit);
+    block("short texts", short_texts);
+    block("headers", headers);
+    block("areas", areas);
+    block("long texts", long_texts);
+    block("distances", distances);
+    printf("%d passed, %d failed\n", passed, failed);
+    return failed != 0;
+}

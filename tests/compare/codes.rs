@@ -1,0 +1,137 @@
+//! Random bytes of units, composites and lists: valid, nearly valid, damaged, and nothing of the kind.
+
+use crate::random::Random;
+
+/// Each main type's count of subtypes and of length numbers.
+const SINGLE: [(u8, u8, u8); 6] = [(0, 1, 8), (1, 5, 8), (2, 5, 8), (3, 1, 8), (4, 1, 8), (6, 6, 5)];
+
+fn with_body(random: &mut Random, main_type: u8, subtype: u8, length: u8, body: usize) -> Vec<u8> {
+    let mut bytes = vec![main_type << 4 | subtype, length];
+    bytes.extend(body_bytes(random, body));
+    bytes
+}
+
+/// Mostly random; sometimes all zeros or all ones.
+fn body_bytes(random: &mut Random, length: usize) -> Vec<u8> {
+    match random.below(8) {
+        0 => vec![0x00; length],
+        1 => vec![0xff; length],
+        _ => random.bytes(length),
+    }
+}
+
+/// A permitted unit, an ID included.
+pub fn unit(random: &mut Random) -> Vec<u8> {
+    let (main_type, subtypes, lengths) = random.pick(&SINGLE);
+    let (subtype, length) = (random.below(subtypes as usize) as u8, random.below(lengths as usize) as u8);
+    let body = if main_type == 6 { 8 + length as usize } else { 4 * (length as usize + 1) };
+    with_body(random, main_type, subtype, length, body)
+}
+
+pub fn composite(random: &mut Random) -> Vec<u8> {
+    let length = random.below(8) as u8;
+    let subtype = match length {
+        0 => 5,
+        4 => 6,
+        _ => random.below(5) as u8,
+    };
+    with_body(random, 5, subtype, length, 8 * (2 + length.count_ones() as usize))
+}
+
+/// Units that make a composite, in any order.
+pub fn units_of_composite(random: &mut Random) -> Vec<Vec<u8>> {
+    let set = random.below(8);
+    let subtype = random.below(5) as u8;
+    let mut units = Vec::new();
+    for (main_type, present) in [(0, set & 4 != 0), (1, set & 2 != 0), (2, set & 1 != 0), (3, true), (4, true)] {
+        if present {
+            let own = if matches!(main_type, 1 | 2) { subtype } else { 0 };
+            units.push(with_body(random, main_type, own, 1, 8));
+        }
+    }
+    random.shuffle(&mut units);
+    units
+}
+
+/// Another subtype for the first SEMANTIC or CONTENT unit, or for the first of any main type where there is none.
+fn other_subtype(random: &mut Random, units: &mut [Vec<u8>]) {
+    let typed = |unit: &Vec<u8>| unit.first().is_some_and(|byte| matches!(byte >> 4, 1 | 2));
+    let at = units.iter().position(typed).unwrap_or(0);
+    if let Some(byte) = units[at].first_mut() {
+        *byte = *byte & 0xf0 | random.below(6) as u8;
+    }
+}
+
+/// Breaks one of the rules on lists, or a rule on headers and bodies.
+fn spoil(random: &mut Random, units: &mut Vec<Vec<u8>>) {
+    let at = random.below(units.len());
+    match random.below(9) {
+        0 => units.push(units[at].clone()),
+        1 => units[at] = unit(random),
+        2 => units.push(unit(random)),
+        3 => units.push(composite(random)),
+        4 => drop(units.remove(at)),
+        5 => other_subtype(random, units),
+        6 => units[at].iter_mut().skip(1).take(1).for_each(|byte| *byte = random.byte() & 0x1f),
+        7 => units[at] = random.bytes(2),
+        _ => units[at].truncate(random.below(10)),
+    }
+    random.shuffle(units);
+}
+
+/// Units end to end; half of the lists have one to three faults.
+pub fn list(random: &mut Random) -> Vec<u8> {
+    let mut units = units_of_composite(random);
+    if random.percent(50) {
+        for _ in 0..1 + random.below(3) {
+            if !units.is_empty() {
+                spoil(random, &mut units);
+            }
+        }
+    }
+    units.concat()
+}
+
+/// Many units, so that a fault stands far behind; some end in a cut one.
+pub fn long_list(random: &mut Random) -> Vec<u8> {
+    let mut bytes = Vec::new();
+    for _ in 0..random.below(400) {
+        bytes.extend(if random.percent(2) { list(random) } else { with_body(random, 3, 0, 1, 8) });
+    }
+    if random.percent(30) {
+        bytes.extend(unit(random));
+        bytes.truncate(bytes.len() - 1 - random.below(3));
+    }
+    bytes
+}
+
+/// Flips a bit, changes, cuts, drops or adds a byte.
+pub fn damage(random: &mut Random, bytes: &mut Vec<u8>) {
+    let at = random.below(bytes.len() + 1);
+    let inside = at < bytes.len();
+    match random.below(6) {
+        0 if inside => bytes[at] ^= 1 << random.below(8),
+        1 if inside => bytes[at] = random.byte(),
+        2 if inside => drop(bytes.remove(at)),
+        3 => bytes.truncate(at),
+        4 => bytes.insert(at, random.byte()),
+        _ => bytes.push(random.byte()),
+    }
+}
+
+/// Bytes for a reader of one item or more.
+pub fn items(random: &mut Random) -> Vec<u8> {
+    let mut bytes = match random.below(10) {
+        0..=1 => unit(random),
+        2..=3 => composite(random),
+        4..=8 => list(random),
+        _ => {
+            let length = random.pick(&[0, 1, 2, 3, 8, 9, 10, 18, 20, 42, 50]);
+            random.bytes(length)
+        }
+    };
+    while random.percent(20) {
+        damage(random, &mut bytes);
+    }
+    bytes
+}

@@ -1,0 +1,40 @@
+//! Inputs of about a mebibyte: no call may mind how much it is lent.
+
+use crate::codes;
+use crate::random::Random;
+use harness::call::{Call, Request};
+use reference::base32;
+
+const MEBIBYTE: usize = 1 << 20;
+/// The longest area of these requests, and of any other case.
+pub const LONGEST: usize = 2 * MEBIBYTE;
+
+/// A DATA unit again and again, with another item behind it.
+fn list(random: &mut Random, last: Vec<u8>) -> Vec<u8> {
+    let unit = [vec![0x30, 1], random.bytes(8)].concat();
+    [unit.repeat(MEBIBYTE / unit.len()), last].concat()
+}
+
+pub fn requests(random: &mut Random) -> Vec<Request> {
+    let mut requests = Vec::new();
+    let mut add = |call, first: Vec<u8>| requests.push(Request { first, area: LONGEST, ..Request::new(call) });
+    let bytes = random.bytes(MEBIBYTE + 3);
+    let mut text = base32::encode(&bytes);
+    add(Call::Base32Write, bytes);
+    add(Call::Base32Read, text.clone());
+    add(Call::Intake, text.clone());
+    add(Call::Strict, text.clone());
+    *text.last_mut().unwrap() = b'1';
+    add(Call::Base32Read, text);
+    let ends = [vec![], vec![0x30], vec![0x70, 0], codes::composite(random), codes::unit(random)];
+    for last in ends {
+        add(Call::Join, list(random, last));
+    }
+    for head in [codes::unit(random), codes::composite(random)] {
+        let long = [head, random.bytes(MEBIBYTE)].concat();
+        for call in [Call::UnitRead, Call::HeaderRead, Call::Split, Call::Distance] {
+            add(call, long.clone());
+        }
+    }
+    requests
+}

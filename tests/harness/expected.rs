@@ -1,0 +1,46 @@
+//! The reference's answer to a request.
+
+use crate::call::{Call, Request, Response};
+use reference::header::Header;
+use reference::{base32, composite, distance, doors, header, unit, Answer};
+
+fn written(answer: Answer<Vec<u8>>) -> Response {
+    answer.map_or_else(Response::refused, Response::written)
+}
+
+fn read(answer: Answer<(Header, usize)>) -> Response {
+    match answer {
+        Err(number) => Response::refused(number),
+        Ok((header, used)) => {
+            let [main_type, subtype, version, length] = header.map(u64::from);
+            Response { values: [main_type, subtype, version, length, used as u64], ..Response::default() }
+        }
+    }
+}
+
+fn measured(answer: Answer<distance::Distance>) -> Response {
+    match answer {
+        Err(number) => Response::refused(number),
+        Ok(found) => {
+            let values = [found.d as u64, found.n as u64, found.ratio.to_bits() as u64, 0, 0];
+            Response { values, ..Response::default() }
+        }
+    }
+}
+
+pub fn answer(request: &Request) -> Response {
+    let Request { call, first, second, header, area } = request;
+    match call {
+        Call::Intake => written(doors::intake(first, *area)),
+        Call::Strict => written(doors::strict(first).map(|()| Vec::new())),
+        Call::Distance => measured(distance::distance(first, second)),
+        Call::Base32Read => written(base32::read(first, *area)),
+        Call::Base32Write => written(base32::write(first, *area)),
+        Call::HeaderRead => read(header::read(first)),
+        Call::HeaderWrite => written(header::write(*header, *area)),
+        Call::UnitRead => read(unit::read(first).map(|(item, used)| (item.header, used))),
+        Call::UnitWrite => written(unit::write(*header, second, *area)),
+        Call::Join => written(composite::join(first, *area)),
+        Call::Split => written(composite::split(first, *area)),
+    }
+}

@@ -1,0 +1,148 @@
+//! The labels of document 01 and the published examples of the reference library, through the linked libraries.
+
+use harness::call::{Call, Request, Response};
+use harness::fence::Side;
+use harness::hex;
+use harness::library::{Library, Setting};
+use harness::tally::Tally;
+use std::process::ExitCode;
+
+/// Runs requests and says what did not answer as written beside it.
+struct Labels {
+    library: Library,
+    faults: Vec<String>,
+}
+
+impl Labels {
+    fn expect(&mut self, request: Request, due: Response) {
+        let setting = Setting { side: Side::Right, null: true, filling: vec![0xee] };
+        let found = self.library.answer(&request, &setting);
+        if found.as_ref() != Ok(&due) {
+            let found = found.map_or_else(|fault| fault, |response| response.to_string());
+            self.faults.push(format!("\n  {request}\n  expected {due}\n  found    {found}"));
+        }
+    }
+
+    /// Intake on an area of just 73 bytes writes this text.
+    fn written(&mut self, text: &str, due: &str) {
+        let request = Request { first: text.into(), area: 73, ..Request::new(Call::Intake) };
+        self.expect(request, Response::written(due.into()));
+    }
+
+    /// Both doors refuse with this number.
+    fn refused(&mut self, text: &str, number: u32) {
+        let request = Request { first: text.into(), area: 73, ..Request::new(Call::Intake) };
+        self.expect(request, Response::refused(number));
+        self.expect(Request { first: text.into(), ..Request::new(Call::Strict) }, Response::refused(number));
+    }
+
+    fn strict(&mut self, text: &str, number: u32) {
+        self.expect(Request { first: text.into(), ..Request::new(Call::Strict) }, Response::refused(number));
+    }
+
+    /// The raw header writer gives the bytes, and the reader the numbers back.
+    fn header(&mut self, header: [u32; 4], bytes: &str) {
+        let bytes = hex::decode(bytes).expect("hex");
+        let [main_type, subtype, version, length] = header.map(u64::from);
+        let values = [main_type, subtype, version, length, bytes.len() as u64];
+        let read = Request { first: bytes.clone(), ..Request::new(Call::HeaderRead) };
+        self.expect(read, Response { values, ..Response::default() });
+        self.expect(Request { header, area: 8, ..Request::new(Call::HeaderWrite) }, Response::written(bytes));
+    }
+
+    fn read(&mut self, call: Call, bytes: &str, number: u32) {
+        let request = Request { first: hex::decode(bytes).expect("hex"), area: 80, ..Request::new(call) };
+        self.expect(request, Response::refused(number));
+    }
+}
+
+fn varnibbles(labels: &mut Labels) {
+    // Subtype, version and length 0 follow as three zero nibbles, and a pad nibble where they are odd in number.
+    let table =
+        [(7, "7000"), (8, "800000"), (71, "bf0000"), (72, "c00000"), (583, "dff000"), (584, "e0000000"), (4679, "efff0000")];
+    for (number, bytes) in table {
+        labels.header([number, 0, 0, 0], bytes);
+    }
+    for place in 0..4 {
+        let mut header = [0; 4];
+        header[place] = 4680;
+        labels.expect(Request { header, area: 8, ..Request::new(Call::HeaderWrite) }, Response::refused(17));
+    }
+}
+
+fn headers(labels: &mut Labels) {
+    labels.header([5, 5, 0, 0], "5500");
+    labels.header([8, 0, 0, 0], "800000");
+    labels.read(Call::HeaderRead, "800001", 7);
+    labels.read(Call::UnitRead, "5700", 8);
+    labels.read(Call::UnitRead, &format!("5700{}", "00".repeat(32)), 8);
+    labels.read(Call::Join, &format!("5700{}", "00".repeat(32)), 8);
+    labels.read(Call::Split, &format!("5700{}", "00".repeat(32)), 8);
+}
+
+fn line_case(labels: &mut Labels) {
+    labels.written("GAAW2PRCRS5LNVZV-IAAUVACQKXE3V44W", "ISCC:KUAG2PRCRS5LNVZVJKAFAVOJXLZZM");
+    labels.written("IAAUVACQKXE3V44W-GAAW2PRCRS5LNVZV", "ISCC:KUAG2PRCRS5LNVZVJKAFAVOJXLZZM");
+    labels.written("iscc:maagztfqttvizpjr", "ISCC:MAAGZTFQTTVIZPJR");
+    labels.written("Iscc:Maagztfqttvizpjr", "ISCC:MAAGZTFQTTVIZPJR");
+    labels.refused("", 1);
+    labels.strict("ISCC:KUAG2PRCRS5LNVZVJKAFAVOJXLZZM", 0);
+    labels.strict("GAAW2PRCRS5LNVZV-IAAUVACQKXE3V44W", 16);
+}
+
+fn one_unit(labels: &mut Labels) {
+    labels.written("GAAW2PRCRS5LNVZV", "ISCC:GAAW2PRCRS5LNVZV");
+    labels.refused("GAAW2PRCRS5LNVZVGAAW2PRCRS5LNVZV", 12);
+    labels.refused("GAAW2PRCRS5LNVZV-MAAGZTFQTTVIZPJR", 10);
+    labels.strict("ISCC:GAAW2PRCRS5LNVZV", 0);
+    labels.strict("ISCC:gAAW2PRCRS5LNVZV", 16);
+}
+
+fn short_texts(labels: &mut Labels) {
+    for (text, number) in [("ISCC", 6), ("AB", 6), ("A", 5), ("A1", 4), ("AA", 7), ("ISCC:", 1), ("-", 1), ("   ", 1)] {
+        labels.refused(text, number);
+    }
+}
+
+fn distance(labels: &mut Labels) {
+    let request = |a: &str, b: &str| {
+        let [first, second] = [a, b].map(|text| hex::decode(text).expect("hex"));
+        Request { first, second, ..Request::new(Call::Distance) }
+    };
+    let values = [9, 32, 0.28125_f32.to_bits() as u64, 0, 0];
+    labels.expect(request("300000000000", "3000ff000001"), Response { values, ..Response::default() });
+    labels.expect(request("300000000000", "400000000000"), Response::refused(18));
+    labels.expect(request("300000000000", "30000000000000"), Response::refused(19));
+}
+
+/// What documents 002 and 003 print of the reference library, as document 01 reads it.
+fn published(labels: &mut Labels) {
+    labels.written("MEACB7X7777574L6", "ISCC:MEACB7X7777574L6");
+    labels.written("ISCC:MEACB7X7777574L6", "ISCC:MEACB7X7777574L6");
+    labels.written("iscc:maagztfqttvizpjr", "ISCC:MAAGZTFQTTVIZPJR");
+    labels.written("GAAW2PRCRS5LNVZV-IAAUVACQKXE3V44W", "ISCC:KUAG2PRCRS5LNVZVJKAFAVOJXLZZM");
+    labels.strict("ISCC:MEACB7X7777574L6", 0);
+    // Base16 behind the letter f: 0 and 1 are outside the alphabet.
+    labels.refused("fcc010001657fe7cafe9791bb", 4);
+}
+
+fn main() -> ExitCode {
+    let blocks: [(&str, fn(&mut Labels)); 7] = [
+        ("varnibbles", varnibbles),
+        ("headers", headers),
+        ("line case", line_case),
+        ("one unit", one_unit),
+        ("short texts", short_texts),
+        ("distance", distance),
+        ("published examples", published),
+    ];
+    let mut labels = Labels { library: Library::new(1 << 16), faults: Vec::new() };
+    let mut tally = Tally::default();
+    for (name, block) in blocks {
+        block(&mut labels);
+        let faults = std::mem::take(&mut labels.faults);
+        let detail = if faults.is_empty() { "as document 01 says".to_string() } else { faults.concat() };
+        tally.check(&format!("labels, {name}"), faults.is_empty(), detail);
+    }
+    tally.finish()
+}

@@ -1,0 +1,31 @@
+//! Document 01 written a second time, in plain Rust and from the paper alone, to hold the proved code against.
+//!
+//! It shares nothing with the definitions or the code under `crates/`. It is written to be read beside the paper and not to
+//! be fast: bits are lists of booleans, and every call hands back what it would write.
+
+pub mod base32;
+pub mod composite;
+pub mod distance;
+pub mod doors;
+pub mod header;
+pub mod lines;
+pub mod refusal;
+pub mod unit;
+
+/// What a call answers: its value, or the number of its refusal.
+pub type Answer<T> = Result<T, u32>;
+
+/// Refuses with `number` unless the test holds.
+pub(crate) fn demand(test: bool, number: u32) -> Answer<()> {
+    if test {
+        Ok(())
+    } else {
+        Err(number)
+    }
+}
+
+/// What a writer writes into an area of `area` bytes.
+pub(crate) fn fitted(bytes: Vec<u8>, area: usize) -> Answer<Vec<u8>> {
+    demand(bytes.len() <= area, refusal::AREA_TOO_SHORT)?;
+    Ok(bytes)
+}

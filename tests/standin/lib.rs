@@ -1,0 +1,134 @@
+//! The C interface of the console and probe libraries over the reference. It stands in for the proved libraries to hold the
+//! reference against the vectors, and, with a slip put into it, to see that the tests catch the slip.
+
+use reference::distance::Distance;
+use reference::header::Header;
+use reference::{base32, composite, distance, doors, header, unit, Answer};
+
+#[repr(C)]
+pub struct Written {
+    number: u32,
+    length: usize,
+}
+
+#[repr(C)]
+pub struct DistanceAnswer {
+    number: u32,
+    d: u32,
+    n: u32,
+    ratio: f32,
+}
+
+#[repr(C)]
+#[derive(Default)]
+pub struct HeaderAnswer {
+    number: u32,
+    main_type: u32,
+    subtype: u32,
+    version: u32,
+    length: u32,
+    used: usize,
+}
+
+/// A lent area; null stands for an empty one.
+unsafe fn lent<'a>(start: *const u8, length: usize) -> &'a [u8] {
+    if length == 0 {
+        &[]
+    } else {
+        std::slice::from_raw_parts(start, length)
+    }
+}
+
+unsafe fn lent_out<'a>(start: *mut u8, length: usize) -> &'a mut [u8] {
+    if length == 0 {
+        &mut []
+    } else {
+        std::slice::from_raw_parts_mut(start, length)
+    }
+}
+
+/// Copies what was written to the area, and on a refusal nothing.
+fn written(answer: Answer<Vec<u8>>, area: &mut [u8]) -> Written {
+    match answer {
+        Err(number) => Written { number, length: 0 },
+        Ok(bytes) => {
+            area[..bytes.len()].copy_from_slice(&bytes);
+            Written { number: 0, length: bytes.len() }
+        }
+    }
+}
+
+fn read(answer: Answer<(Header, usize)>) -> HeaderAnswer {
+    match answer {
+        Err(number) => HeaderAnswer { number, ..HeaderAnswer::default() },
+        Ok(([main_type, subtype, version, length], used)) => {
+            HeaderAnswer { number: 0, main_type, subtype, version, length, used }
+        }
+    }
+}
+
+macro_rules! writers {
+    ($($name:ident = $call:path;)*) => {$(
+        #[no_mangle]
+        pub unsafe extern "C" fn $name(bytes: *const u8, bytes_len: usize, out: *mut u8, out_len: usize) -> Written {
+            written($call(lent(bytes, bytes_len), out_len), lent_out(out, out_len))
+        }
+    )*};
+}
+
+writers! {
+    iscc_intake = doors::intake;
+    probe_base32_read = base32::read;
+    probe_base32_write = base32::write;
+    probe_join = composite::join;
+    probe_split = composite::split;
+}
+
+#[no_mangle]
+pub unsafe extern "C" fn iscc_strict(text: *const u8, text_len: usize) -> u32 {
+    doors::strict(lent(text, text_len)).err().unwrap_or(0)
+}
+
+#[no_mangle]
+pub unsafe extern "C" fn iscc_distance(a: *const u8, a_len: usize, b: *const u8, b_len: usize) -> DistanceAnswer {
+    match distance::distance(lent(a, a_len), lent(b, b_len)) {
+        Err(number) => DistanceAnswer { number, d: 0, n: 0, ratio: 0.0 },
+        Ok(Distance { d, n, ratio }) => DistanceAnswer { number: 0, d, n, ratio },
+    }
+}
+
+#[no_mangle]
+pub unsafe extern "C" fn probe_header_read(bytes: *const u8, bytes_len: usize) -> HeaderAnswer {
+    read(header::read(lent(bytes, bytes_len)))
+}
+
+#[no_mangle]
+pub unsafe extern "C" fn probe_unit_read(bytes: *const u8, bytes_len: usize) -> HeaderAnswer {
+    read(unit::read(lent(bytes, bytes_len)).map(|(item, used)| (item.header, used)))
+}
+
+#[no_mangle]
+pub unsafe extern "C" fn probe_header_write(
+    main_type: u32,
+    subtype: u32,
+    version: u32,
+    length: u32,
+    out: *mut u8,
+    out_len: usize,
+) -> Written {
+    written(header::write([main_type, subtype, version, length], out_len), lent_out(out, out_len))
+}
+
+#[no_mangle]
+pub unsafe extern "C" fn probe_unit_write(
+    main_type: u32,
+    subtype: u32,
+    version: u32,
+    length: u32,
+    body: *const u8,
+    body_len: usize,
+    out: *mut u8,
+    out_len: usize,
+) -> Written {
+    written(unit::write([main_type, subtype, version, length], lent(body, body_len), out_len), lent_out(out, out_len))
+}
