@@ -1,15 +1,15 @@
 -- The first element that fails a test, by index, for loops over a slice. Assumes nothing.
 use Prim.Native.Nat.{ℕ, zero, suc, _+_, _^_, _≤_, _<_}
 use mathlib.Core.Path.{_≡_, refl, sym, _∙_, ap}
-use mathlib.Core.Bool.{Bool, true, false, cond, _&&_}
-use mathlib.Core.List.{List, [], _∷_, map}
+use mathlib.Core.Bool.{Bool, true, false, cond, _&&_, and-false, and-comm}
+use mathlib.Core.List.{List, [], _∷_, _++_, map, map-append}
 use native.Mathlib.Nat.{le-of-suc-le-suc}
 use native.Mathlib.Numerals.{add-one}
 use native.Mathlib.Omega.{arith}
-use lib.ListN.{length, getD, drop, drop-of-length-le}
-use lib.Seq.{drop-cons}
+use lib.ListN.{length, getD, take, drop, drop-of-length-le}
+use lib.Seq.{drop-cons, take-suc, take-all}
 use lib.Dec.{ltb}
-use borrow.Author.Tests.{ltb-true}
+use borrow.Author.Tests.{ltb-true, lt-ltb}
 use Rattle.iscc.specs.Digits.{Below, allBelow}
 use Rattle.iscc.specs.Alphabet.{Alphabet, digitIn, isDigit}
 use Rattle.iscc.specs.Lists.{firstNot}
@@ -62,3 +62,52 @@ module _ (a : Alphabet) where
           → (b && allBelow (2 ^ a .bits) (map (digitIn a) t)) ≡ false
       go true h ih = ih (le-of-suc-le-suc h)
       go false h ih = refl
+
+-- ---- all elements below b, by the largest: m is the largest that f gives of the first i
+
+larger : (m d b : ℕ) → m ≤ d → ltb d b ≡ (ltb m b && ltb d b)
+larger m d b h = go (ltb d b) refl
+  where
+    go : (t : Bool) → ltb d b ≡ t → t ≡ (ltb m b && t)
+    go true e = rw (lt-ltb m b (omega (arith, ltb-true d b e)))
+    go false e = sym (and-false (ltb m b))
+
+allBelow-snoc : (b : ℕ) (xs : List ℕ) (x : ℕ) → allBelow b (xs ++ (x ∷ [])) ≡ (allBelow b xs && ltb x b)
+unfolding allBelow
+allBelow-snoc b [] x = and-comm (ltb x b) true
+allBelow-snoc b (y ∷ xs) x = go (ltb y b) (allBelow-snoc b xs x)
+  where
+    go : (t : Bool) → allBelow b (xs ++ (x ∷ [])) ≡ (allBelow b xs && ltb x b) → (t && allBelow b (xs ++ (x ∷ []))) ≡ ((t && allBelow b xs) && ltb x b)
+    go true ih = ih
+    go false ih = refl
+
+pub record Largest (f : ℕ → ℕ) (b : ℕ) (xs : List ℕ) (i m : ℕ) : Type 0 where
+  pub within : i ≤ length xs
+  pub is : ltb m b ≡ allBelow b (map f (take i xs))
+
+pub largest-none : (f : ℕ → ℕ) (b : ℕ) (xs : List ℕ) → 0 < b → Largest f b xs 0 0
+unfolding allBelow
+largest-none f b xs h = record { within = omega arith; is = lt-ltb 0 b h }
+
+module _ {f : ℕ → ℕ} {b : ℕ} {xs : List ℕ} {i m : ℕ} (d : ℕ) (s : Largest f b xs i m) (l : i < length xs) (e : d ≡ f (getD xs i 0)) where
+  next : {n : ℕ} → ltb n b ≡ (ltb m b && ltb d b) → Largest f b xs (i + 1) n
+  next {n} p =
+      record {
+        within = omega arith;
+        is = p ∙ sym (rw (add-one, take-suc xs i 0 l, map-append) (allBelow-snoc b (map f (take i xs)) (f (getD xs i 0)) ∙ rw (← s .is, ← e)));
+      }
+
+  pub largest-new : m < d → Largest f b xs (i + 1) d
+  largest-new h = next (larger m d b (omega arith))
+
+  pub largest-kept : d ≤ m → Largest f b xs (i + 1) m
+  largest-kept h = next (larger d m b h ∙ and-comm (ltb d b) (ltb m b))
+
+pub largest-all : {f : ℕ → ℕ} {b : ℕ} {xs : List ℕ} {i m : ℕ} → Largest f b xs i m → length xs ≤ i → ltb m b ≡ allBelow b (map f xs)
+largest-all {f} {b} {xs} {i} s h = s .is ∙ ap (λ (l : List ℕ). allBelow b (map f l)) (take-all i xs h)
+
+-- and then no element is the first to fail
+pub none-bad : (a : Alphabet) (t : List ℕ) → Below (2 ^ a .bits) (map (digitIn a) t) → length t ≡ firstNot (isDigit a) t
+unfolding firstNot
+none-bad a [] h = refl
+none-bad a (c ∷ t) h = rw (lt-ltb (digitIn a c) (2 ^ a .bits) (h .0)) (ap suc (none-bad a t (h .1)))

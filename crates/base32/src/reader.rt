@@ -7,7 +7,7 @@ ghost use lib.ListN.{length, take, drop};
 ghost use Rattle.iscc.specs.Answer.{areaAfter};
 ghost use Rattle.iscc.specs.Alphabet.{digitIn, isDigit};
 ghost use Rattle.iscc.specs.Base32.{base32, readBase32};
-ghost use Rattle.iscc.specs.Digits.{digits, value, Below, byteCount, spareCount};
+ghost use Rattle.iscc.specs.Digits.{digits, value, Below, allBelow, byteCount, spareCount};
 ghost use Rattle.iscc.specs.Forms.{writtenAs};
 ghost use Rattle.iscc.specs.Lists.{firstNot};
 use iscc::refusal::Refusal;
@@ -25,10 +25,29 @@ pub fn digit_of(c: u8) -> u8
     }
 }
 
+// Whether each character has a digit. It tests the largest digit alone, so that the loop has no branch.
+fn all_digits(text: &[u8]) -> bool
+    ensures { λ r. ⌜ r ≡ allBelow 32 (map (digitIn base32) (now (text .entry))) ⌝ }
+{
+    let mut most = 0;
+    let mut i = 0;
+    while i < text.len() {
+        let digit = digit_of(text[i]);
+        if most < digit {
+            most = digit;
+        }
+        i += 1;
+    }
+    most < 32
+}
+
 // The index of the first character outside the alphabet, or the text's length.
 pub fn first_bad(text: &[u8]) -> usize
     ensures { λ r. ⌜ r ≡ firstNot (isDigit base32) (now (text .entry)) ⌝ }
 {
+    if all_digits(text) {
+        return text.len();
+    }
     let mut i = 0;
     while i < text.len() {
         if 32 <= digit_of(text[i]) {
@@ -44,7 +63,8 @@ fn digit(c: u8) -> u64
     requires { ⌜ digitIn base32 c < 32 ⌝ }
     ensures { λ r. ⌜ (r ≡ digitIn base32 c) × (r < 32) ⌝ }
 {
-    digit_of(c) as u64
+    // A letter's last five bits are one more than its digit; those of 2 to 7, which are below 64, eight less.
+    (c % 32 + 8 - c / 64 * 9) as u64
 }
 
 // The number that the digits of `count` characters from `at` on make, the first one highest.

@@ -32,14 +32,16 @@ fn load(bytes: &[u8], at: usize, count: usize) -> u64
 }
 
 // The characters of the low `count` digits of a number, from `at` on.
-fn put(number: u64, count: usize, out: &mut [u8], at: usize)
+fn put(alphabet: &[u8; 32], number: u64, count: usize, out: &mut [u8], at: usize)
+    requires { ⌜ now alphabet ≡ base32 .chars ⌝ }
     requires { ⌜ (count ≤ 8) × (at + count ≤ length (now out)) ⌝ }
     ensures { λ _. ⌜ now (out .exit) ≡ take at (now (out .entry)) ++ (map (charIn base32) (digits 5 count number) ++ drop (at + count) (now (out .entry))) ⌝ }
 {
     let mut i = 0;
     while i < count {
         let shift: usize = (count - 1 - i) * 5;
-        out[at + i] = iscc::tables::letter((number >> shift) as usize);
+        let digit: usize = ((number >> shift) % 32) as usize;
+        out[at + i] = alphabet[digit];
         i += 1;
     }
 }
@@ -57,18 +59,20 @@ fn fill(bytes: &[u8], out: &mut [u8])
     requires { ⌜ digitCount 5 (length (now bytes)) ≤ length (now out) ⌝ }
     ensures { λ _. ⌜ now (out .exit) ≡ encode base32 (now (bytes .entry)) ++ drop (digitCount 5 (length (now (bytes .entry)))) (now (out .entry)) ⌝ }
 {
+    // One copy for the whole text: a table that is named in a loop is copied at each use.
+    let alphabet = iscc::tables::ALPHABET;
     let n = bytes.len();
     let mut i = 0;
     let mut o = 0;
     while 5 <= n - i {
-        put(load(bytes, i, 5), 8, out, o);
+        put(&alphabet, load(bytes, i, 5), 8, out, o);
         i += 5;
         o += 8;
     }
     let rest = n - i;
     let count = (rest * 8 + 4) / 5;
     let zeros: usize = count * 5 - rest * 8;
-    put(load(bytes, i, rest) << zeros, count, out, o);
+    put(&alphabet, load(bytes, i, rest) << zeros, count, out, o);
 }
 
 // Writes the text of the bytes to the front of the area. Gives 15 where the area is too short.

@@ -34,10 +34,10 @@ unfolding digitCount
 rest-digits k = omega arith
 
 abbrev Inv-loop : tie.InvT-loop
-Inv-loop bytes out₀ n i₀ o₀ out i o = Encoded base32 pos bytes out₀ out i o
+Inv-loop bytes out₀ alphabet n i₀ o₀ out i o = Encoded base32 pos bytes out₀ out i o
 
 abbrev μ-loop : tie.MeasureT-loop
-μ-loop bytes out₀ n i₀ o₀ out i o = n - i
+μ-loop bytes out₀ alphabet n i₀ o₀ out i o = n - i
 
 loop-holds : tie.Need-loop-holds Inv-loop μ-loop
 loop-holds c = encoded-none base32 pos _ _
@@ -45,15 +45,16 @@ loop-holds c = encoded-none base32 pos _ _
 put-requires : tie.Need-put-requires Inv-loop μ-loop
 unfolding base32
 put-requires c κs =
-    let s = c .before .before .before .loop .inv in
-    (omega arith, omega (arith, length-written (s .is), group-room _ _ _ (s .whole) (s .within) (c .before .before .loop-test .taken)))
+    let in-loop = c .before .before .before in
+    let s = in-loop .before .loop .inv in
+    (refl, (omega arith, omega (arith, length-written (s .is), group-room _ _ _ (s .whole) (s .within) (in-loop .loop-test .taken))))
 
 add-o : tie.Need-add-o Inv-loop μ-loop
 unfolding base32
 add-o c =
-    let at = c .before .before .before .before .before in
-    let s = at .before .loop .inv in
-    omega (arith, group-room _ _ _ (s .whole) (s .within) (at .loop-test .taken))
+    let in-loop = c .before .before .before .before .before .before in
+    let s = in-loop .before .loop .inv in
+    omega (arith, group-room _ _ _ (s .whole) (s .within) (in-loop .loop-test .taken))
 
 bytes-below : (c : tie.After-slice-known Inv-loop μ-loop) → Below 256 (c .before .before .args .bytes .now)
 bytes-below c = below-all 256 (c .before .before .args .bytes .now) (λ k _. c .before .shared-slice-known .given k .fits)
@@ -63,25 +64,25 @@ unfolding base32
 loop-again c =
     let put = c .before .before in
     let load = put .before .before in
-    let at = load .before .before in
+    let at = load .before .before .before in
     let s = at .loop .inv in
-    encoded-group base32 pos _ _ 5 8 (load .load .result) s (bytes-below (at .before)) (omega (arith, group-room _ _ _ (s .whole) (s .within) (load .before .loop-test .taken))) (load .load .ensures .0)
+    encoded-group base32 pos _ _ 5 8 (load .load .result) s (bytes-below (at .before)) (omega (arith, group-room _ _ _ (s .whole) (s .within) (load .before .before .loop-test .taken))) (load .load .ensures .0)
     refl (omega arith) (put .put .ensures)
 
 put-requires-2 : tie.Need-put-requires-2 Inv-loop μ-loop
 unfolding base32
 put-requires-2 c κs =
-    let s = c .before .before .before .loop .inv in
-    (omega arith, omega (arith, length-written (s .is), rest-count _ _ _ (s .whole) (s .within)))
+    let s = c .before .before .before .before .loop .inv in
+    (refl, (omega arith, omega (arith, length-written (s .is), rest-count _ _ _ (s .whole) (s .within))))
 
 -- all is written
 done : (c : tie.After-put2 Inv-loop μ-loop) →
-    let at = c .before .before .before .before in
-    Written (encode base32 (at .before .before .before .args .bytes .now)) (at .before .before .before .args .out .now) (c .put2 .last .1 .1 .0) (digitCount 5 (length (at .before .before .before .args .bytes .now)))
+    let at = c .before .before .before .before .before in
+    Written (encode base32 (at .before .before .before .args .bytes .now)) (at .before .before .before .args .out .now) (c .put2 .last .1 .1 .1 .0) (digitCount 5 (length (at .before .before .before .args .bytes .now)))
 unfolding base32
 done c =
     let load = c .before .before in
-    let at = load .before .before in
+    let at = load .before .before .before in
     let s = at .loop .inv in
     let n : ℕ = length (at .before .before .before .args .bytes .now) in
     let k : ℕ = n - at .loop .i in

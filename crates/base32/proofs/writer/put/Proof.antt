@@ -12,10 +12,10 @@ use Rattle.base32.proofs.writer.put.Statement.{statement}
 use Rattle.base32.proofs.writer.put.Tie as tie
 
 abbrev Inv-loop : tie.InvT-loop
-Inv-loop number count out₀ at i₀ out i = Put (charIn base32) 5 count number out₀ out at i
+Inv-loop alphabet number count out₀ at i₀ out i = Put (charIn base32) 5 count number out₀ out at i
 
 abbrev μ-loop : tie.MeasureT-loop
-μ-loop number count out₀ at i₀ out i = count - i
+μ-loop alphabet number count out₀ at i₀ out i = count - i
 
 loop-holds : tie.Need-loop-holds Inv-loop μ-loop
 loop-holds c = put-none _ _ _ _ _ _ (omega arith)
@@ -24,11 +24,12 @@ slice-write-out : tie.Need-slice-write-out Inv-loop μ-loop
 slice-write-out c = let s = c .before .before .loop .inv .is in omega (arith, length-written s)
 
 loop-again : tie.Need-loop-again Inv-loop μ-loop
+unfolding charIn
 loop-again c =
     let at = c .before .before in
-    let a = at .before .before .args in
+    let a = at .before .args in
     let e : (a .count - 1 - at .loop .i) * 5 ≡ 5 * (a .count - 1 - at .loop .i) = omega arith in
-    put-one _ _ _ _ (c .letter .result) (at .loop .inv) (omega arith) (omega arith) (rw e at (c .letter .ensures))
+    put-one _ _ _ _ _ (at .loop .inv) (omega arith) (omega arith) (rw (at .before .pre .0, e))
 
 same-length : tie.Need-same-length Inv-loop μ-loop
 same-length c = length-written (c .before .loop .inv .is)
@@ -47,7 +48,7 @@ put-spec =
     (λ c. search needs)
     (λ c. search needs)
     (λ c. search needs)
-    (λ c κs. search needs)
+    (λ c. search needs)
     (λ c. search needs)
     slice-write-out
     (λ c. search needs)
