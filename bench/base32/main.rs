@@ -34,6 +34,11 @@ fn digit_of(c: u8) -> u8 {
     }
 }
 
+// The digit of a character that has one.
+fn digit(c: u8) -> u8 {
+    (c % 32 + 8).wrapping_sub(c / 64 * 9)
+}
+
 fn put_text(number: u64, out: &mut [u8]) {
     let n = out.len();
     for (i, c) in out.iter_mut().enumerate() {
@@ -69,7 +74,7 @@ fn rust_write(bytes: &[u8], out: &mut [u8]) -> Result<usize, u32> {
 
 #[inline(never)]
 fn rust_read(text: &[u8], out: &mut [u8]) -> Result<usize, u32> {
-    if text.iter().any(|&c| digit_of(c) >= 32) {
+    if text.iter().map(|&c| digit_of(c)).max() >= Some(32) {
         return Err(4);
     }
     let spare = text.len() % 8 * 5 % 8;
@@ -77,7 +82,7 @@ fn rust_read(text: &[u8], out: &mut [u8]) -> Result<usize, u32> {
         return Err(5);
     }
     let groups = text.chunks_exact(8);
-    let rest = number(groups.remainder().iter().map(|&c| digit_of(c)), 5);
+    let rest = number(groups.remainder().iter().map(|&c| digit(c)), 5);
     if rest % (1 << spare) != 0 {
         return Err(6);
     }
@@ -85,7 +90,7 @@ fn rust_read(text: &[u8], out: &mut [u8]) -> Result<usize, u32> {
     let Some(out) = out.get_mut(..total) else { return Err(15) };
     let mut areas = out.chunks_exact_mut(5);
     for (group, area) in groups.zip(&mut areas) {
-        put_bytes(number(group.iter().map(|&c| digit_of(c)), 5), area);
+        put_bytes(number(group.iter().map(|&c| digit(c)), 5), area);
     }
     put_bytes(rest >> spare, areas.into_remainder());
     Ok(total)
