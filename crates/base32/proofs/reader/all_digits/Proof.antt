@@ -7,7 +7,7 @@ use lib.ListN.{length}
 use borrow.Author.Needs.{needs}
 use Rattle.iscc.specs.Alphabet.{digitIn}
 use Rattle.iscc.specs.Base32.{base32}
-use Rattle.base32.proofs.First.{Largest, largest-none, largest-new, largest-kept, largest-all}
+use Rattle.iscc.proofs.FirstNot.{Largest, largest-none, largest-new, largest-kept, largest-all}
 use Rattle.base32.proofs.reader.all_digits.Statement.{statement}
 use Rattle.base32.proofs.reader.all_digits.Tie as tie
 

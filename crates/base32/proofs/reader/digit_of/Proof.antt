@@ -5,7 +5,7 @@ use native.Mathlib.Omega.{arith}
 use borrow.Author.Needs.{needs}
 use Rattle.iscc.specs.Alphabet.{upper, indexOf, digitIn}
 use Rattle.iscc.specs.Base32.{base32}
-use Rattle.base32.proofs.Values.{agree}
+use Rattle.iscc.proofs.Values.{agree}
 use Rattle.base32.proofs.reader.digit_of.Statement.{statement}
 use Rattle.base32.proofs.reader.digit_of.Tie as tie
 

@@ -9,7 +9,7 @@ use Rattle.iscc.specs.Digits.{digits, value, byteCount, spareCount}
 use Rattle.iscc.specs.Alphabet.{digitIn}
 use Rattle.iscc.specs.Base32.{base32}
 use Rattle.iscc.proofs.Area.{Written, length-written}
-use Rattle.base32.proofs.Groups.{Decoded, decoded-none, decoded-group, decoded-rest, byteCount-join}
+use Rattle.iscc.proofs.Groups.{Decoded, decoded-none, decoded-group, decoded-rest, byteCount-join}
 use Rattle.base32.proofs.reader.fill.Statement.{statement}
 use Rattle.base32.proofs.reader.fill.Tie as tie
 

@@ -8,7 +8,7 @@ use borrow.Author.Tests.{lt-ltb, le-ltb}
 use Rattle.iscc.specs.Alphabet.{isDigit}
 use Rattle.iscc.specs.Base32.{base32}
 use Rattle.iscc.proofs.Digits.{below-of}
-use Rattle.base32.proofs.First.{none-bad, Passed, passed-none, passed-one, failed, passed-all}
+use Rattle.iscc.proofs.FirstNot.{none-bad, Passed, passed-none, passed-one, failed, passed-all}
 use Rattle.base32.proofs.reader.first_bad.Statement.{statement}
 use Rattle.base32.proofs.reader.first_bad.Tie as tie
 

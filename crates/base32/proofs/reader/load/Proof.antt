@@ -9,7 +9,7 @@ use borrow.Author.Needs.{needs}
 use Rattle.iscc.specs.Alphabet.{digitIn}
 use Rattle.iscc.specs.Base32.{base32}
 use Rattle.iscc.proofs.Digits.{below-at}
-use Rattle.base32.proofs.Groups.{Loaded, loaded-none, loaded-one, loaded-small, map-at}
+use Rattle.iscc.proofs.Groups.{Loaded, loaded-none, loaded-one, loaded-small, map-at}
 use Rattle.base32.proofs.reader.load.Statement.{statement}
 use Rattle.base32.proofs.reader.load.Tie as tie
 

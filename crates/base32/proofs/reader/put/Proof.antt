@@ -6,7 +6,7 @@ use native.Mathlib.Omega.{arith}
 use lib.ListN.{length, drop, length-drop}
 use borrow.Author.Needs.{needs}
 use Rattle.iscc.proofs.Area.{length-written}
-use Rattle.base32.proofs.Groups.{Put, put-none, put-one, put-all}
+use Rattle.iscc.proofs.Groups.{Put, put-none, put-one, put-all}
 use Rattle.base32.proofs.reader.put.Statement.{statement}
 use Rattle.base32.proofs.reader.put.Tie as tie
 

@@ -13,9 +13,9 @@ use Rattle.iscc.specs.Alphabet.{isDigit, decode}
 use Rattle.iscc.specs.Base32.{base32}
 use Rattle.iscc.specs.Lists.{firstNot}
 use Rattle.iscc.proofs.Area.{Written, length-written}
-use Rattle.base32.proofs.First.{all-digits}
-use Rattle.base32.proofs.Lent.{refused, too-short, filled}
-use Rattle.base32.proofs.Tests.{spareOf, bytesOf, length-bytes, refused-4, refused-5, refused-6, accepted}
+use Rattle.iscc.proofs.FirstNot.{all-digits}
+use Rattle.iscc.proofs.Lent.{refused, too-short, filled}
+use Rattle.iscc.proofs.Decoding.{spareOf, bytesOf, length-bytes, refused-4, refused-5, refused-6, accepted}
 use Rattle.base32.proofs.reader.read.Statement.{statement}
 use Rattle.base32.proofs.reader.read.Tie as tie
 

@@ -10,7 +10,7 @@ use borrow.Author.Needs.{needs}
 use Rattle.iscc.specs.Digits.{spareCount}
 use Rattle.iscc.specs.Alphabet.{digitIn}
 use Rattle.iscc.specs.Base32.{base32}
-use Rattle.base32.proofs.Groups.{spare-rest}
+use Rattle.iscc.proofs.Groups.{spare-rest}
 use Rattle.base32.proofs.reader.spare.Statement.{statement}
 use Rattle.base32.proofs.reader.spare.Tie as tie
 

@@ -12,7 +12,7 @@ use Rattle.iscc.specs.Alphabet.{encode}
 use Rattle.iscc.specs.Base32.{base32}
 use Rattle.iscc.proofs.Digits.{below-all}
 use Rattle.iscc.proofs.Area.{Written, length-written}
-use Rattle.base32.proofs.Groups.{Encoded, encoded-none, encoded-group, encoded-rest}
+use Rattle.iscc.proofs.Groups.{Encoded, encoded-none, encoded-group, encoded-rest}
 use Rattle.base32.proofs.writer.fill.Statement.{statement}
 use Rattle.base32.proofs.writer.fill.Tie as tie
 

@@ -5,7 +5,7 @@ use native.Mathlib.Omega.{arith}
 use lib.ListN.{length, drop, length-drop}
 use lib.Seq.{getD-drop}
 use borrow.Author.Needs.{needs}
-use Rattle.base32.proofs.Groups.{Loaded, loaded-none, loaded-one, loaded-small}
+use Rattle.iscc.proofs.Groups.{Loaded, loaded-none, loaded-one, loaded-small}
 use Rattle.base32.proofs.writer.load.Statement.{statement}
 use Rattle.base32.proofs.writer.load.Tie as tie
 

@@ -7,7 +7,7 @@ use borrow.Author.Needs.{needs}
 use Rattle.iscc.specs.Alphabet.{charIn}
 use Rattle.iscc.specs.Base32.{base32}
 use Rattle.iscc.proofs.Area.{length-written}
-use Rattle.base32.proofs.Groups.{Put, put-none, put-one, put-all}
+use Rattle.iscc.proofs.Groups.{Put, put-none, put-one, put-all}
 use Rattle.base32.proofs.writer.put.Statement.{statement}
 use Rattle.base32.proofs.writer.put.Tie as tie
 

@@ -7,7 +7,7 @@ use Rattle.iscc.specs.Alphabet.{encode}
 use Rattle.iscc.specs.Base32.{base32}
 use Rattle.iscc.proofs.Alphabet.{length-encode}
 use Rattle.iscc.proofs.Area.{Written, length-written}
-use Rattle.base32.proofs.Lent.{too-short, filled}
+use Rattle.iscc.proofs.Lent.{too-short, filled}
 use Rattle.base32.proofs.writer.write.Statement.{statement}
 use Rattle.base32.proofs.writer.write.Tie as tie
 

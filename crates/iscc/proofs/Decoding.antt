@@ -6,13 +6,13 @@ use mathlib.Core.List.{List, map}
 use lib.ListN.{length, length-map}
 use lib.Dec.{ltb, eqb}
 use borrow.Author.Tests.{eq-eqb, ne-eqb}
 use Rattle.iscc.specs.Refusals.{badCharacter, badCount, spareBits}
 use Rattle.iscc.specs.Answer.{Answer, accept, refuse, _>>_, _otherwise_}
 use Rattle.iscc.specs.Digits.{digits, value, allBelow, byteCount, spareCount, fromDigits}
 use Rattle.iscc.specs.Alphabet.{Alphabet, digitIn, isDigit, decode}
 use Rattle.iscc.specs.Lists.{firstNot}
 use Rattle.iscc.proofs.Digits.{allBelow-true, length-digits}
-use Rattle.base32.proofs.First.{all-digits, some-bad}
+use Rattle.iscc.proofs.FirstNot.{all-digits, some-bad}
 
 module _ (a : Alphabet) (t : List ℕ) where
   abbrev ds : List ℕ

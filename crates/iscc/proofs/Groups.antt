@@ -10,12 +10,12 @@ use lib.ListN.{length, take, drop, getD, set, length-append, length-map, length-
 use lib.Seq.{take-suc, take-add, take-all, length-take-le}
 use lib.Arith.{digits-div, digits-lt}
 use lib.Pow.{pow-pos, pow-mono, pow-add, high, low, shl-lt, shr-lt, shl-shr, shr-shr}
 use Rattle.iscc.specs.Digits.{digits, value, Below, digitCount, toDigits, byteCount, spareCount}
 use Rattle.iscc.specs.Alphabet.{Alphabet, charIn, encode}
 use Rattle.iscc.proofs.Digits.{length-digits, digits-below, value-digits, value-inj, value-lt, value-append, value-snoc, digits-append, digits-snoc, below-take, below-drop}
 use Rattle.iscc.proofs.ByteDigits.{Counts, counts}
 use Rattle.iscc.proofs.Area.{Written, nothing-written, one-written}
-use Rattle.base32.proofs.Lent.{placed, placed-none, placed-all, more-written}
+use Rattle.iscc.proofs.Lent.{placed, placed-none, placed-all, more-written}
 
 -- the n low digits of a number are those of its low part
 pub digits-low : (v n hi lo : ℕ) → lo < 2 ^ (v * n) → digits v n (hi * 2 ^ (v * n) + lo) ≡ digits v n lo
