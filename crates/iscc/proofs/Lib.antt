@@ -24,3 +24,8 @@ pub mod CallTests
 pub mod Exactly
 pub mod Demands
 pub mod Labels
+pub mod Values
+pub mod FirstNot
+pub mod Lent
+pub mod Groups
+pub mod Decoding

@@ -7,7 +7,7 @@ ghost use Rattle.iscc.specs.Permitted.{setOf};
 ghost use Rattle.iscc.specs.Forms.{unitSetAs};
 use crate::main_type::MainType;
 
-const ALPHABET: [u8; 32] = *b"ABCDEFGHIJKLMNOPQRSTUVWXYZ234567";
+pub const ALPHABET: [u8; 32] = *b"ABCDEFGHIJKLMNOPQRSTUVWXYZ234567";
 
 // The character of a digit; a larger number counts by its last five bits.
 pub fn letter(digit: usize) -> u8
