@@ -2,9 +2,6 @@
 pub mod Table
 pub mod Read
 pub mod Bounds
-<<<<<<< HEAD
 pub mod Sole
-=======
 pub mod Parts
 pub mod Write
->>>>>>> 43482324895a19b58c55e6dec1b65acc99166e01
