@@ -9,6 +9,7 @@ use Rattle.iscc.specs.declared.main_type.MainType.{MainType}
 use Rattle.iscc.specs.declared.main_type.Named.{Named}
 use Rattle.iscc.specs.declared.main_type.Named.the-variants as named
 use Rattle.iscc.specs.declared.tables.UnitSet.{UnitSet}
+use Rattle.iscc.specs.declared.written.Outcome.{Outcome}
 use Rattle.iscc.specs.declared.written.Written.{Written}
 use Rattle.iscc.specs.declared.written.Written.the-variants.{Length, Refused}
 
@@ -36,3 +37,7 @@ numberIn (Refused q) = q .number
 abbrev pub lengthIn : Written → ℕ
 lengthIn (Length n) = n
 lengthIn (Refused q) = 0
+
+-- the same for C
+abbrev pub outcomeAs : Written → Outcome
+outcomeAs w = record { number = numberIn w; length = lengthIn w }
