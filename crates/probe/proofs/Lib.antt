@@ -1,0 +1,2 @@
+-- The readers' answers as the struct of six numbers.
+pub mod Laws
