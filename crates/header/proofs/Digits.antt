@@ -1,13 +1,13 @@
 -- Digits at a place and behind one another, over the bits v of a digit; and nibbles packed into bytes. Assumes nothing.
-use Prim.Native.Nat.{ℕ, zero, suc, _+_, _-_, _*_, _/_, _%_, _^_, _≤_, _<_}
+use Prim.Native.Nat.{ℕ, zero, suc, _+_, _-_, _*_, _/_, _%_, _^_, _<_}
 use mathlib.Core.Path.{_≡_, refl, sym, _∙_, ap}
 use mathlib.Core.List.{List, [], _∷_, _++_}
 use native.Mathlib.Omega.{arith}
-use native.Mathlib.Nat.{lt-of-lt-of-le, mul-add, mod-eq-of-lt}
+use native.Mathlib.Nat.{mul-add, mod-eq-of-lt}
 use lib.Arith.{digits-lt}
-use lib.Pow.{pow-add, pow-mono, high, low, shr-shr}
+use lib.Pow.{pow-add, high, low, shr-shr}
 use lib.ListN.{length, getD}
-use Rattle.iscc.specs.Digits.{digits, value}
+use Rattle.iscc.specs.Digits.{digits}
 use Rattle.iscc.specs.Header.{packed}
 use Rattle.iscc.proofs.Digits.{length-digits, digits-below, value-digits, value-inj, digits-append, digits-snoc}
 

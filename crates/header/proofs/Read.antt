@@ -9,7 +9,7 @@ use lib.ListN.{length, getD, take, drop}
 use lib.Dec.{eqb, ltb, leb, lit≤}
 use Rattle.iscc.specs.Digits.{value}
 use Rattle.iscc.specs.Varnibble.{Parsed, firstOf, rowBy, readVarnibble}
-use Rattle.iscc.specs.Answer.{Answer, accept, refuse, _>>=_, _>>_, _otherwise_}
+use Rattle.iscc.specs.Answer.{Answer, accept, refuse, _>>_, _otherwise_}
 use Rattle.iscc.specs.Refusals.{badHeader}
 use Rattle.iscc.specs.Header.{nibbles, readHeader}
 use Rattle.iscc.proofs.Varnibble.{got, read-none, read-ones, read-cut, read-here}
@@ -17,7 +17,6 @@ use Rattle.iscc.proofs.Header.{length-nibbles}
 use Rattle.header.specs.declared.reader.Number.{Number}
 use Rattle.header.specs.declared.rows.Row.{Row}
 use Rattle.header.specs.declared.reader.Numbers.{Numbers}
-use Rattle.header.specs.declared.reader.HeaderRead.{HeaderRead}
 use Rattle.header.specs.declared.reader.HeaderRead.the-variants.{Header, Refused}
 use Rattle.header.specs.Forms.{rowAs, numberAs, NumbersIn, headerReadAs}
 

@@ -1,5 +1,5 @@
 -- What the writer's steps say of `varnibble`, `headerBytes` and `writeHeader`. Assumes nothing.
-use Prim.Native.Nat.{ℕ, zero, suc, _+_, _-_, _*_, _/_, _%_, _^_, _≤_, _<_}
+use Prim.Native.Nat.{ℕ, _+_, _-_, _*_, _/_, _%_, _^_, _≤_, _<_}
 use mathlib.Core.Path.{_≡_, refl, sym, _∙_, ap}
 use mathlib.Core.Bool.{Bool, true, false, not, _&&_}
 use mathlib.Core.List.{List, [], _∷_, _++_}
@@ -8,17 +8,16 @@ use native.Mathlib.Nat.{lt-of-lt-of-le}
 use native.Mathlib.Numerals.{add-one}
 use lib.Pow.{pow-mono}
 use lib.Dec.{leb}
-use lib.ListN.{length, getD, take, drop, set}
+use lib.ListN.{length, getD, take, set}
 use lib.Seq.{take-suc, take-all}
 use borrow.Author.Tests.{leb-true, le-leb, lt-leb, not-true, not-false}
-use Rattle.iscc.specs.Answer.{Answer, accept, refuse, _>>=_, _>>_, _otherwise_, into, areaAfter}
+use Rattle.iscc.specs.Answer.{Answer, accept, refuse, _>>=_, _>>_, _otherwise_, areaAfter}
 use Rattle.iscc.specs.Refusals.{Refusal, numberTooLarge, areaTooShort}
 use Rattle.iscc.specs.Digits.{digits}
-use Rattle.iscc.specs.Varnibble.{firstOf, prefixOf, rowOf, varnibble, writeVarnibble}
+use Rattle.iscc.specs.Varnibble.{rowOf, varnibble, writeVarnibble}
 use Rattle.iscc.specs.Header.{packed, headerBytes, rawHeader, writeHeader}
 use Rattle.iscc.specs.Header as iscc
 use Rattle.iscc.specs.Forms.{writtenAs}
-use Rattle.iscc.specs.declared.written.Written.{Written}
 use Rattle.iscc.specs.declared.written.Written.the-variants.{Length, Refused}
 use Rattle.iscc.proofs.Digits.{length-digits, and-true}
 use Rattle.iscc.proofs.Header.{Writable, raw-header}

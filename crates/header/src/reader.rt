@@ -24,9 +24,9 @@ pub enum HeaderRead {
 }
 
 // A number that was read, and the nibbles it took. A width of 0: no varnibble stands there.
-pub struct Number {
-    pub value: u32,
-    pub width: usize,
+struct Number {
+    value: u32,
+    width: usize,
 }
 
 const NONE: Number = Number { value: 0, width: 0 };
@@ -90,11 +90,11 @@ fn number_at(bytes: &[u8], at: usize) -> Number
 }
 
 // The four varnibbles at the front of the bytes, each behind the one before.
-pub struct Numbers {
-    pub main_type: Number,
-    pub subtype: Number,
-    pub version: Number,
-    pub length: Number,
+struct Numbers {
+    main_type: Number,
+    subtype: Number,
+    version: Number,
+    length: Number,
 }
 
 fn numbers_at_front(bytes: &[u8]) -> Numbers

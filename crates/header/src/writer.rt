@@ -17,9 +17,9 @@ use iscc::refusal::Refusal;
 use iscc::written::Written;
 
 // The low digits of a number, nibbles or bytes: a header of 16 nibbles fits.
-pub struct Digits {
-    pub value: u64,
-    pub count: usize,
+struct Digits {
+    value: u64,
+    count: usize,
 }
 
 // The nibbles of a number's varnibble behind others.

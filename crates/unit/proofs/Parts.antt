@@ -1,13 +1,17 @@
--- An area whose front was written, and then what lies behind that. Assumes nothing.
-use Prim.Native.Nat.{ℕ, _+_, _-_, _≤_, _<_}
-use mathlib.Core.Path.{_≡_, refl, sym, _∙_, ap}
-use mathlib.Core.List.{List, [], _∷_, _++_, append-assoc, append-nil}
+-- Parts of a slice: the rest from a place on, and an area whose front was written and then what lies behind that. Assumes nothing.
+use Prim.Native.Nat.{ℕ, _+_, _-_, _<_}
+use mathlib.Core.Path.{_≡_, _∙_}
+use mathlib.Core.List.{List, _++_, append-assoc, append-nil}
 use native.Mathlib.Omega.{arith}
 use native.Mathlib.Numerals.{add-one}
-use lib.ListN.{length, getD, take, drop, set, length-append}
-use lib.Seq.{take-append-seam, drop-append-seam, take-length, drop-length, drop-drop, take-suc}
+use lib.ListN.{length, getD, take, drop, set, length-append, length-drop}
+use lib.Seq.{take-append-seam, drop-append-seam, take-length, drop-length, drop-drop, take-suc, take-all}
 use Rattle.iscc.specs.Answer.{accept, areaAfter}
 use Rattle.iscc.proofs.Area.{Written, one-written}
+
+-- a part that goes to the end, as callers hand it over
+pub rest-is : (xs : List ℕ) (at : ℕ) → take (length xs - at) (drop at xs) ≡ drop at xs
+rest-is xs at = take-all (length xs - at) (drop at xs) (omega (arith, length-drop at xs))
 
 abbrev over : List ℕ → List ℕ → List ℕ
 over xs d = areaAfter (accept xs) d

@@ -1,31 +1,30 @@
 -- What the reader's tests say of `readItem`. Assumes nothing.
 use Prim.Native.Nat.{ℕ, _+_, _-_, _≤_, _<_}
 use mathlib.Core.Path.{_≡_, refl, sym, _∙_, ap, subst}
-use mathlib.Core.Bool.{Bool, true, false, not, _&&_}
+use mathlib.Core.Bool.{Bool, true, false, not}
 use mathlib.Core.List.{List}
 use native.Mathlib.Omega.{arith}
 use borrow.Author.Tests.{lt-ltb, le-leb, lt-leb, not-true, not-false}
 use lib.ListN.{length, take, drop, length-drop}
 use lib.Seq.{length-take-le}
-use Rattle.iscc.specs.Answer.{Answer, accept, refuse, _>>=_, _>>_, _otherwise_}
+use Rattle.iscc.specs.Answer.{Answer, accept, refuse}
 use Rattle.iscc.specs.Refusals.{Refusal, notPermitted, shortBody}
 use Rattle.iscc.specs.Varnibble.{Parsed}
 use Rattle.iscc.specs.Header.{readHeader}
 use Rattle.iscc.specs.Header as iscc
 use Rattle.iscc.specs.Permitted.{number, typeOf, mainTypeOf, permits, bodyBytes}
 use Rattle.iscc.specs.Permitted as permitted
-use Rattle.iscc.specs.Item.{Item, readItem}
+use Rattle.iscc.specs.Item.{readItem}
 use Rattle.iscc.specs.Forms.{mainTypeAs, namedAs}
 use Rattle.iscc.specs.declared.main_type.MainType.{MainType}
 use Rattle.iscc.specs.declared.main_type.Named.{Named}
 use Rattle.iscc.specs.declared.main_type.Named.the-variants as named
-use Rattle.iscc.proofs.Permitted.{named-number, number-small, small, body-most}
+use Rattle.iscc.proofs.Permitted.{number-small, small}
 use Rattle.header.specs.declared.reader.RawHeader.{RawHeader}
 use Rattle.header.specs.declared.reader.HeaderRead.{HeaderRead}
 use Rattle.header.specs.declared.reader.HeaderRead.the-variants as header
 use Rattle.header.specs.Forms.{headerReadAs}
 use Rattle.header.proofs.Bounds.{parsedFrom, read-as}
-use Rattle.unit.specs.declared.reader.UnitRead.{UnitRead}
 use Rattle.unit.specs.declared.reader.UnitRead.the-variants.{Unit, Refused}
 use Rattle.unit.specs.Forms.{permitsAs, unitReadAs}
 

@@ -1,11 +1,11 @@
 -- The table of permitted headers by the number of a main type. Assumes nothing.
 use Prim.Native.Nat.{ℕ, zero, suc, _+_, _*_, _≤_, _<_}
-use mathlib.Core.Path.{_≡_, refl, sym, _∙_, ap}
-use mathlib.Core.Bool.{Bool, true, false, cond, _&&_}
+use mathlib.Core.Path.{_≡_, refl, sym, _∙_}
+use mathlib.Core.Bool.{Bool, true, false, _&&_}
 use native.Mathlib.Omega.{arith}
 use lib.Dec.{eqb, leb, ltb}
 use borrow.Author.Tests.{lt-ltb, le-ltb, ne-eqb, eq-eqb, eqb-true, eqb-false, le-leb, lt-leb}
-use Rattle.iscc.specs.Permitted.{typeOf, compositeSubtype, row, permits, unitCount, setOf, bodyBytes}
+use Rattle.iscc.specs.Permitted.{typeOf, compositeSubtype, row, setOf, bodyBytes}
 use Rattle.iscc.specs.declared.main_type.MainType.{MainType}
 use Rattle.iscc.specs.declared.tables.UnitSet.{UnitSet}
 use Rattle.iscc.specs.Forms.{unitSetAs}

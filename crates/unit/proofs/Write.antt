@@ -1,16 +1,16 @@
 -- What the writer's tests say of `writeUnit`. Assumes nothing.
 use Prim.Native.Nat.{ℕ, _+_, _≤_, _<_}
 use mathlib.Core.Path.{_≡_, refl, sym, _∙_, ap}
-use mathlib.Core.Bool.{Bool, true, false, not, _&&_}
+use mathlib.Core.Bool.{Bool, true, false, not}
 use mathlib.Core.List.{List, _++_}
 use native.Mathlib.Omega.{arith}
 use native.Mathlib.Decide.{decLt}
 use borrow.Author.Tests.{lt-ltb, le-ltb, ltb-true, le-leb, lt-leb, not-true, not-false}
 use lib.Dec.{ltb, eqb, leb}
-use lib.ListN.{length, take, drop, length-append}
+use lib.ListN.{length, take, length-append}
 use lib.Seq.{length-take-le}
-use Rattle.iscc.specs.Answer.{Answer, accept, refuse, _>>=_, _>>_, _otherwise_, into, areaAfter}
-use Rattle.iscc.specs.Refusals.{Refusal, notPermitted, shortBody, areaTooShort}
+use Rattle.iscc.specs.Answer.{Answer, accept, refuse, _>>_, _otherwise_, areaAfter}
+use Rattle.iscc.specs.Refusals.{notPermitted, shortBody, areaTooShort}
 use Rattle.iscc.specs.Header.{Header, headerBytes, writeHeader}
 use Rattle.iscc.specs.Permitted.{typeOf, mainTypeOf, isUnit, permits, bodyBytes}
 use Rattle.iscc.specs.Item.{unitBytes, writeUnit}

@@ -1,6 +1,5 @@
 -- `row_by` meets its contract: each test follows from the branch taken. Assumes nothing.
 use borrow.Author.Needs.{needs}
-use native.Mathlib.Omega.{arith}
 use Rattle.iscc.specs.Varnibble.{firstOf, prefixOf, rowBy}
 use Rattle.header.proofs.Cases.{tests}
 use Rattle.header.proofs.rows.row_by.Statement.{statement}

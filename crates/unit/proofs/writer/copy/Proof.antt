@@ -1,11 +1,10 @@
 -- `copy` meets its contract. The invariant: the first i bytes stand at the front of the area. Assumes nothing.
 use Prim.Native.Nat.{_-_, _≤_}
 use mathlib.Core.Path.{_≡_, _∙_, ap}
-use mathlib.Core.List.{List}
 use Prim.Native.Nat.{ℕ}
 use native.Mathlib.Omega.{arith}
 use borrow.Author.Needs.{needs}
-use lib.ListN.{length, take}
+use lib.ListN.{take}
 use Rattle.iscc.specs.Answer.{accept, areaAfter}
 use Rattle.iscc.proofs.Area.{Written, nothing-written, length-written, all-written}
 use Rattle.unit.proofs.Parts.{copy-more}
