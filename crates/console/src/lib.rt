@@ -1,0 +1,2 @@
+// The C entries of the standby console: include/iscc.h declares them.
+pub mod distances;
