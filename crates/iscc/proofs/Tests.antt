@@ -113,7 +113,6 @@ module _ {A : Type 0} (p : A → Bool) where
 
 -- ---- the first element that does not go with one before result
 
-
 module _ {A : Type 0} (r : A → A → Bool) where
   abbrev clearIn : List A → List A → ℕ → Bool
   clearIn before xs j = headHolds (λ x. every (λ e. r e x) (before ++ take j xs)) (drop j xs)

@@ -1,0 +1,4 @@
+pub mod Tests
+pub mod Snoc
+pub mod Added
+pub mod Decided
