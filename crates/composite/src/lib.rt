@@ -1,0 +1,2 @@
+// Composites: units joined to one, and one split into its units.
+pub mod bodies;
