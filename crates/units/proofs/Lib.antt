@@ -2,3 +2,4 @@ pub mod Tests
 pub mod Snoc
 pub mod Added
 pub mod Decided
+pub mod Reached
