@@ -24,6 +24,7 @@ pub record NumberBounds (ns : List ℕ) (g : Parsed ℕ) : Type 0 where
   pub most : g .used ≤ 4
   pub within : g .used ≤ length ns
   pub small : g .result ≤ 4679
+  pub short : g .result < 8 → g .used ≡ 1
 
 row-cases : (P : ℕ → Type 0) → P 1 → P 2 → P 3 → P 4 → (a b c : Bool) → P (cond a 1 (cond b 2 (cond c 3 4)))
 row-cases P p q r s true b c = p
@@ -31,11 +32,15 @@ row-cases P p q r s false true c = q
 row-cases P p q r s false false true = r
 row-cases P p q r s false false false = s
 
-row-bounds : (h v : ℕ) → (1 ≤ rowBy h) × (rowBy h ≤ 4) × (firstOf (rowBy h) + v % 2 ^ (3 * rowBy h) ≤ 4679)
+row-bounds : (h v : ℕ) → (1 ≤ rowBy h) × (rowBy h ≤ 4) × (firstOf (rowBy h) + v % 2 ^ (3 * rowBy h) ≤ 4679) × (firstOf (rowBy h) + v % 2 ^ (3 * rowBy h) < 8 → rowBy h ≡ 1)
 unfolding rowBy firstOf
 row-bounds h v =
-    row-cases (λ k. (1 ≤ k) × (k ≤ 4) × (firstOf k + v % 2 ^ (3 * k) ≤ 4679))
-    (omega arith) (omega arith) (omega arith) (omega arith) (ltb h 8) (ltb h 12) (ltb h 14)
+    row-cases (λ k. (1 ≤ k) × (k ≤ 4) × (firstOf k + v % 2 ^ (3 * k) ≤ 4679) × (firstOf k + v % 2 ^ (3 * k) < 8 → k ≡ 1))
+    (omega arith, omega arith, omega arith, λ _. refl)
+    (omega arith, omega arith, omega arith, λ x. absurd (omega arith))
+    (omega arith, omega arith, omega arith, λ x. absurd (omega arith))
+    (omega arith, omega arith, omega arith, λ x. absurd (omega arith))
+    (ltb h 8) (ltb h 12) (ltb h 14)
 
 pub number-bounds : (ns : List ℕ) (g : Parsed ℕ) → readVarnibble ns ≡ accept g → NumberBounds ns g
 unfolding readVarnibble
@@ -46,7 +51,7 @@ number-bounds ns g e =
     let p₃ = passed (leb (rowBy h) (length ns)) _ _ (p₂ .1) in
     let b = row-bounds h (value 4 (take (rowBy h) ns)) in
     subst (NumberBounds ns) (accept-inj (p₃ .1))
-    (record { some = b .0; most = b .1; within = leb-true (rowBy h) (length ns) (p₃ .0); small = b .2 })
+    (record { some = b .0; most = b .1; within = leb-true (rowBy h) (length ns) (p₃ .0); small = b .2; short = b .3 })
 
 -- a header that was read
 pub record HeaderBounds (bs : List ℕ) (g : Parsed iscc.Header) : Type 0 where
@@ -54,6 +59,28 @@ pub record HeaderBounds (bs : List ℕ) (g : Parsed iscc.Header) : Type 0 where
   pub most : g .used ≤ 8
   pub within : g .used ≤ length bs
   pub numbers : Writable (g .result)
+  pub short : g .result .mainType < 8 → g .result .subtype < 8 → g .result .version < 8 → g .result .lengthNo < 8 → g .used ≡ 2
+
+-- four varnibbles that were read, one behind the other
+module _ (bs : List ℕ) (a b c d : Parsed ℕ) where
+  abbrev four : ℕ
+  four = a .used + b .used + c .used + d .used
+
+  abbrev fourOf : Parsed iscc.Header
+  fourOf = record { result = record { mainType = a .result; subtype = b .result; version = c .result; lengthNo = d .result }; used = (four + 1) / 2 }
+
+  four-bounds : NumberBounds (nibbles bs) a → NumberBounds (drop (a .used) (nibbles bs)) b → NumberBounds (drop (a .used + b .used) (nibbles bs)) c
+      → NumberBounds (drop (a .used + b .used + c .used) (nibbles bs)) d → HeaderBounds bs fourOf
+  four-bounds p q r s =
+      let last : d .used ≤ length (nibbles bs) - (a .used + b .used + c .used) = rw length-drop at (s .within) in
+      let len : length (nibbles bs) ≡ 2 * length bs = length-nibbles bs in
+      record {
+        least = omega (arith, p .some, q .some, r .some, s .some);
+        most = omega (arith, p .most, q .most, r .most, s .most);
+        within = omega (arith, s .some);
+        numbers = (p .small, q .small, r .small, s .small);
+        short = λ x y z w. omega (arith, p .short x, q .short y, r .short z, s .short w);
+      }
 
 pub header-bounds : (bs : List ℕ) (g : Parsed iscc.Header) → readHeader bs ≡ accept g → HeaderBounds bs g
 unfolding readHeader
@@ -63,15 +90,11 @@ header-bounds bs g e =
     let b = answered (readVarnibble (drop (a .0 .used) ns)) _ (a .2) in
     let c = answered (readVarnibble (drop (a .0 .used + b .0 .used) ns)) _ (b .2) in
     let d = answered (readVarnibble (drop (a .0 .used + b .0 .used + c .0 .used) ns)) _ (c .2) in
-    let n : ℕ = a .0 .used + b .0 .used + c .0 .used + d .0 .used in
+    let n : ℕ = four bs (a .0) (b .0) (c .0) (d .0) in
     let p = passed (eqb (n % 2) 0 || eqb (getD ns n 0) 0) _ _ (d .2) in
-    let ba = number-bounds ns (a .0) (a .1) in
-    let bb = number-bounds (drop (a .0 .used) ns) (b .0) (b .1) in
-    let bc = number-bounds (drop (a .0 .used + b .0 .used) ns) (c .0) (c .1) in
-    let bd = number-bounds (drop (a .0 .used + b .0 .used + c .0 .used) ns) (d .0) (d .1) in
-    let l : n ≤ length ns = omega (arith, rw length-drop at (bd .within)) in
     subst (HeaderBounds bs) (accept-inj (p .1))
-    (record { least = omega arith; most = omega arith; within = omega (arith, length-nibbles bs); numbers = (ba .small, bb .small, bc .small, bd .small) })
+    (four-bounds bs (a .0) (b .0) (c .0) (d .0) (number-bounds ns (a .0) (a .1)) (number-bounds (drop (a .0 .used) ns) (b .0) (b .1))
+    (number-bounds (drop (a .0 .used + b .0 .used) ns) (c .0) (c .1)) (number-bounds (drop (a .0 .used + b .0 .used + c .0 .used) ns) (d .0) (d .1)))
 
 -- the definitions' value behind a header in the code
 abbrev pub parsedFrom : RawHeader → Parsed iscc.Header

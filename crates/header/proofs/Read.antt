@@ -15,7 +15,7 @@ use Rattle.iscc.specs.Header.{nibbles, readHeader}
 use Rattle.iscc.proofs.Varnibble.{got, read-none, read-ones, read-cut, read-here}
 use Rattle.iscc.proofs.Header.{length-nibbles}
 use Rattle.header.specs.declared.reader.Number.{Number}
-use Rattle.header.specs.declared.reader.Row.{Row}
+use Rattle.header.specs.declared.rows.Row.{Row}
 use Rattle.header.specs.declared.reader.Numbers.{Numbers}
 use Rattle.header.specs.declared.reader.HeaderRead.{HeaderRead}
 use Rattle.header.specs.declared.reader.HeaderRead.the-variants.{Header, Refused}

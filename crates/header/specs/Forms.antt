@@ -4,14 +4,14 @@ use mathlib.Core.Path.{_≡_}
 use mathlib.Core.List.{List}
 use lib.ListN.{drop}
 use Rattle.iscc.specs.Answer.{Answer, accept, refuse}
-use Rattle.iscc.specs.Varnibble.{Parsed, firstOf, readVarnibble}
+use Rattle.iscc.specs.Varnibble.{Parsed, firstOf, prefixOf, readVarnibble}
 use Rattle.iscc.specs.Header as iscc
 use Rattle.header.specs.declared.Header.{Header}
 use Rattle.header.specs.declared.reader.RawHeader.{RawHeader}
 use Rattle.header.specs.declared.reader.HeaderRead.{HeaderRead}
 use Rattle.header.specs.declared.reader.HeaderRead.the-variants as read
 use Rattle.header.specs.declared.reader.Number.{Number}
-use Rattle.header.specs.declared.reader.Row.{Row}
+use Rattle.header.specs.declared.rows.Row.{Row}
 use Rattle.header.specs.declared.reader.Numbers.{Numbers}
 
 -- a header in the code is the four numbers
@@ -28,7 +28,15 @@ headerReadAs (refuse q) = read.Refused q
 
 -- a row of the varnibble table by its count of nibbles
 abbrev pub rowAs : ℕ → Row
-rowAs k = record { width = k; first = firstOf k; count = 2 ^ (3 * k) }
+rowAs k = record { width = k; first = firstOf k; count = 2 ^ (3 * k); prefix = prefixOf k * 2 ^ (3 * k); size = 2 ^ (4 * k) }
+
+pub record RowBounds (r : Row) : Type 0 where
+  pub some : 1 ≤ r .width
+  pub most : r .width ≤ 4
+  pub numbers : 1 ≤ r .count
+  pub last : r .first + r .count ≤ 4680
+  pub room : r .prefix + r .count ≤ r .size
+  pub largest : r .size ≤ 65536
 
 -- a number that was read; a refusal takes no nibbles
 abbrev pub numberAs : Answer (Parsed ℕ) → Number

@@ -5,10 +5,11 @@ ghost use mathlib.Core.Bool.{_||_};
 ghost use lib.Dec.{eqb};
 ghost use lib.ListN.{length, take, drop, getD};
 ghost use Rattle.iscc.specs.Digits.{value};
-ghost use Rattle.iscc.specs.Varnibble.{rowBy, readVarnibble};
+ghost use Rattle.iscc.specs.Varnibble.{readVarnibble};
 ghost use Rattle.iscc.specs.Header.{nibbles, readHeader};
-ghost use Rattle.header.specs.Forms.{rowAs, numberAs, NumbersIn, headerReadAs};
+ghost use Rattle.header.specs.Forms.{numberAs, NumbersIn, headerReadAs};
 use crate::Header;
+use crate::rows;
 use iscc::refusal::Refusal;
 
 // A header that was read, and the bytes it took.
@@ -26,13 +27,6 @@ pub enum HeaderRead {
 pub struct Number {
     pub value: u32,
     pub width: usize,
-}
-
-// A row of the varnibble table: its nibbles, its first number, and how many numbers it has.
-pub struct Row {
-    pub width: usize,
-    pub first: u32,
-    pub count: u32,
 }
 
 const NONE: Number = Number { value: 0, width: 0 };
@@ -56,38 +50,6 @@ fn nibble(bytes: &[u8], at: usize) -> u32
         return b / 16;
     }
     b % 16
-}
-
-// The row of a first nibble.
-fn row_by(first: u32) -> Row
-    ensures { λ r. ⌜ (r ≡ rowAs (rowBy first)) × (1 ≤ r .width) × (r .width ≤ 4) × (1 ≤ r .count) × (r .first + r .count ≤ 4680) ⌝ }
-{
-    if first < 8 {
-        return Row {
-            width: 1,
-            first: 0,
-            count: 8,
-        };
-    }
-    if first < 12 {
-        return Row {
-            width: 2,
-            first: 8,
-            count: 64,
-        };
-    }
-    if first < 14 {
-        return Row {
-            width: 3,
-            first: 72,
-            count: 512,
-        };
-    }
-    Row {
-        width: 4,
-        first: 584,
-        count: 4096,
-    }
 }
 
 // The number that `width` nibbles stand for, prefix included.
@@ -116,7 +78,7 @@ fn number_at(bytes: &[u8], at: usize) -> Number
     if 15 <= first {
         return NONE;
     }
-    let row = row_by(first);
+    let row = rows::row_by(first);
     if bytes.len() <= (at + row.width - 1) / 2 {
         return NONE;
     }

@@ -30,7 +30,7 @@ use Rattle.unit.specs.declared.reader.UnitRead.the-variants.{Unit, Refus
 use Rattle.unit.specs.Forms.{permitsAs, unitReadAs}
 
 -- what `MainType::from_number` tells
-type-number : (m : permitted.MainType) → typeOf (number m) ≡ m
+pub type-number : (m : permitted.MainType) → typeOf (number m) ≡ m
 unfolding typeOf
 type-number permitted.META = refl
 type-number permitted.SEMANTIC = refl

@@ -9,7 +9,7 @@ use Rattle.header.proofs.reader.number_at.Tie as tie
 sum-fits : tie.Need-add-t12
 sum-fits c =
     let a = c .before .before in
-    omega (arith, mod-lt (a .value-at .result) (a .before .before .before .row-by .ensures .3))
+    omega (arith, mod-lt (a .value-at .result) (a .before .before .before .row-by .ensures .1 .numbers))
 
 pub number-at-spec : {M : Type 1} → statement M
 number-at-spec =
