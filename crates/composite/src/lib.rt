@@ -1,2 +1,3 @@
 // Composites: units joined to one, and one split into its units.
 pub mod bodies;
+pub mod gather;

@@ -1,3 +1,6 @@
+use mathlib.Core.Path.{sym}
+use native.Mathlib.Nat.{add-zero}
+use Rattle.composite.proofs.Parts.{elems-part}
 use borrow.Author.Needs.{needs}
 use Rattle.composite.proofs.bodies.eight.Statement.{statement}
 use Rattle.composite.proofs.bodies.eight.Tie as tie
@@ -66,7 +69,9 @@ shared-slice-read-t25 c = search needs
 
 -- src/bodies.rt:32:1
 returns : tie.Need-returns
-returns c = ?
+returns c =
+    let a = c .before .before .before .before .before .before .before .before .args in
+    simp (sym (elems-part (a .bytes .now) (a .at) 8 (search needs)), add-zero)
 
 pub eight-spec : {M : Type 1} → statement M
 eight-spec =

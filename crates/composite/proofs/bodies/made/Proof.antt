@@ -77,7 +77,7 @@ module _ {M : Type 1} (𝓤 : URA M) (H : Heap 𝓤) (A : Atoms 𝓤) (W : Given
   exits p =
       qed W (‵ Own ∷ []) ∵
       suffices ! _ (ends-at 𝓤 H A made.ended stayed (made.clauses 𝓤 H A mem run) W ((tt, tt, tt, (n, (s, (bs, tt))), vals), tt) (mach bs) h (tt, (tt, (tt, tt))) (tt, (tt, (tt, tt)))) $ says ! refl $
-      fsplit ! $ keep ! (0 ∷ []) $ nothing ! $ nothing ! $ fjoin ! $ nothing ! $ fjoin ! $ move ! (1 ∷ 0 ∷ []) $ fjoin ! $ owned ! T.the-row (Is T.the-row) (LL.makes T.the-type T′.the-plain 𝓤 H A) h _ (owes p) $ move ! (1 ∷ 0 ∷ []) $ nothing ! $ done !
+      fsplit ! $ move ! (1 ∷ []) $ fsplit ! $ keep ! (0 ∷ 2 ∷ []) $ nothing ! $ nothing ! $ fjoin ! $ move ! (1 ∷ 0 ∷ []) $ fjoin ! $ move ! (1 ∷ 0 ∷ []) $ fjoin ! $ owned ! T.the-row (Is T.the-row) (LL.makes T.the-type T′.the-plain 𝓤 H A) h _ (owes p) $ move ! (1 ∷ 0 ∷ []) $ nothing ! $ done !
 
   module _ (C : Calls 𝓤 H) (Λ : Loops 𝓤 H) where
     walk : Is Rows5 bs (rows bs ∷ []) → ent 𝓤 (onEntry 𝓤 H A made.signature tt tt (n, (s, (bs, tt))) vals) (WpFn 𝓤 H C Λ code.function (vint w64 n ∷ vint w32 s ∷ rows bs ∷ []) Post)

@@ -1,3 +1,4 @@
+use Rattle.composite.proofs.Parts.{put-back}
 use borrow.Author.Needs.{needs}
 use Rattle.composite.proofs.bodies.put.Statement.{statement}
 use Rattle.composite.proofs.bodies.put.Tie as tie
@@ -35,7 +36,9 @@ same-length c = search needs
 
 -- src/bodies.rt:49:1
 returns : tie.Need-returns
-returns c = ?
+returns c =
+    let r = c .before .before .before .before .before .before .args in
+    put-back (r .out .now) (r .t1) (c .before .before .copy .last .1 .0) (r .at) (search needs) (search needs) (c .before .before .copy .ensures .1)
 
 pub put-spec : {M : Type 1} → statement M
 put-spec =

@@ -1,0 +1,30 @@
+use borrow.Author.Needs.{needs}
+use Rattle.composite.proofs.gather.subtype_of.Statement.{statement}
+use Rattle.composite.proofs.gather.subtype_of.Tie as tie
+use Rattle.composite.proofs.gather.subtype_of.Reads as reads
+use Rattle.composite.proofs.gather.subtype_of.Lts as lts
+use Rattle.units.proofs.summary.any_subtyped.Reads as any-subtyped-reads
+
+-- src/gather.rt:39:8
+any-subtyped-requires : tie.Need-any-subtyped-requires
+any-subtyped-requires c κs = search needs
+
+-- src/gather.rt:40:9
+returns : tie.Need-returns
+returns c = ?
+
+-- src/gather.rt:42:8
+element-copy-out-if2 : tie.Need-element-copy-out-if2
+element-copy-out-if2 c = search needs
+
+-- src/gather.rt:43:9
+returns-2 : tie.Need-returns-2
+returns-2 c = ?
+
+-- src/gather.rt:36:1
+returns-3 : tie.Need-returns-3
+returns-3 c = ?
+
+pub subtype-of-spec : {M : Type 1} → statement M
+subtype-of-spec =
+    tie.close (tie.spec any-subtyped-requires returns element-copy-out-if2 returns-2 returns-3)
