@@ -16,7 +16,7 @@ use Rattle.iscc.proofs.Answer.{passed, answered, accept-inj}
 use Rattle.iscc.proofs.Header.{Writable, length-nibbles}
 use Rattle.header.specs.declared.reader.RawHeader.{RawHeader}
 use Rattle.header.specs.declared.reader.HeaderRead.the-variants.{Header}
-use Rattle.header.specs.Forms.{rawHeaderAs, headerReadAs}
+use Rattle.header.specs.Forms.{headerFrom, rawHeaderAs, headerReadAs}
 
 -- a varnibble that was read
 pub record NumberBounds (ns : List ℕ) (g : Parsed ℕ) : Type 0 where
@@ -98,11 +98,7 @@ header-bounds bs g e =
 
 -- the definitions' value behind a header in the code
 abbrev pub parsedFrom : RawHeader → Parsed iscc.Header
-parsedFrom h =
-    record {
-      result = record { mainType = h .header .«main_type»; subtype = h .header .subtype; version = h .header .version; lengthNo = h .header .length };
-      used = h .used;
-    }
+parsedFrom h = record { result = headerFrom (h .header); used = h .used }
 
 pub read-as : (r : Answer (Parsed iscc.Header)) (h : RawHeader) → headerReadAs r ≡ Header h → r ≡ accept (parsedFrom h)
 read-as (accept g) h e = let s : rawHeaderAs g ≡ h = cc in ap (λ (x : RawHeader). accept (parsedFrom x)) s

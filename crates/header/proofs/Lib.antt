@@ -3,3 +3,5 @@ pub mod Cases
 pub mod Nibbles
 pub mod Read
 pub mod Bounds
+pub mod Digits
+pub mod Write

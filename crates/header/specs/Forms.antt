@@ -18,6 +18,9 @@ use Rattle.header.specs.declared.reader.Numbers.{Numbers}
 abbrev pub headerAs : iscc.Header → Header
 headerAs h = record { «main_type» = h .mainType; subtype = h .subtype; version = h .version; length = h .lengthNo }
 
+abbrev pub headerFrom : Header → iscc.Header
+headerFrom h = record { mainType = h .«main_type»; subtype = h .subtype; version = h .version; lengthNo = h .length }
+
 abbrev pub rawHeaderAs : Parsed iscc.Header → RawHeader
 rawHeaderAs g = record { header = headerAs (g .result); used = g .used }
 

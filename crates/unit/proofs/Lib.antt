@@ -2,3 +2,5 @@
 pub mod Table
 pub mod Read
 pub mod Bounds
+pub mod Parts
+pub mod Write

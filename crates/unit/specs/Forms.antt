@@ -5,6 +5,7 @@ use lib.Dec.{ltb}
 use lib.ListN.{length}
 use Rattle.iscc.specs.Answer.{Answer, accept, refuse}
 use Rattle.iscc.specs.Varnibble.{Parsed}
+use Rattle.iscc.specs.Header.{Header}
 use Rattle.iscc.specs.Permitted.{typeOf, permits}
 use Rattle.iscc.specs.Item.{Item}
 use Rattle.iscc.specs.Forms.{mainTypeAs}
@@ -16,6 +17,10 @@ use Rattle.unit.specs.declared.reader.UnitRead.the-variants as read
 -- whether the table permits a header; a number that names no main type has none
 unfoldable pub permitsAs : MainType → ℕ → ℕ → ℕ → Bool
 permitsAs m s v l = ltb (m .number) 7 && permits (typeOf (m .number)) s v l
+
+-- the header of a unit to be written
+abbrev pub headerOf : MainType → ℕ → ℕ → ℕ → Header
+headerOf m s v l = record { mainType = m .number; subtype = s; version = v; lengthNo = l }
 
 -- an item that was read, by where its body stands
 abbrev pub unitAs : Parsed Item → code.Unit
