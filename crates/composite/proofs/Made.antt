@@ -82,6 +82,7 @@ like x m hm hx (i ∷ is) e h =
   where
     same : hasSubtype i ≡ true → sharedSubtype x i ≡ true → i .subtype ≡ x .subtype
     same hi s = sym (eqb-true (x .subtype) (i .subtype) (rw (hx, hi) at s))
+
     go : (b : Bool) → sameType m (i .mainType) ≡ b → sharedSubtype x i ≡ true → (has m is ≡ true → subtypeIn m is ≡ x .subtype)
         → isIn (cond b (some (i .body)) (bodyIn m is)) ≡ true → cond b (i .subtype) (subtypeIn m is) ≡ x .subtype
     go true q s ih z =

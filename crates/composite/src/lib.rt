@@ -1,3 +1,4 @@
 // Composites: units joined to one, and one split into its units.
 pub mod bodies;
 pub mod gather;
+pub mod writer;

@@ -1,3 +1,10 @@
+-- `from_list` meets its contract. Assumes nothing.
+use Prim.Native.Nat.{ℕ}
+use mathlib.Core.Path.{_∙_, ap}
+use Rattle.iscc.specs.Permitted.{setOf, setNumber}
+use Rattle.iscc.specs.Forms.{unitSetAs}
+use Rattle.composite.specs.Bodies.{parts, setAt}
+use Rattle.composite.proofs.Made.{units-there, list-made}
 use borrow.Author.Needs.{needs}
 use Rattle.composite.proofs.gather.from_list.Statement.{statement}
 use Rattle.composite.proofs.gather.from_list.Tie as tie
@@ -19,7 +26,9 @@ unit-set-requires c κs = search needs
 
 -- src/gather.rt:74:9
 rows-of-requires : tie.Need-rows-of-requires
-rows-of-requires c κs = ?
+rows-of-requires c κs =
+    let k = c .before .before .before .before .pre in
+    (c .unit-set .ensures .1, λ i h. units-there _ _ (k .0) (k .1) _ (c .unit-set .ensures .0 ∙ ap (λ (n : ℕ). unitSetAs (setOf n)) (c .before .set-number .ensures .0)) i h)
 
 -- src/gather.rt:75:26
 subtype-of-requires : tie.Need-subtype-of-requires
@@ -31,7 +40,12 @@ made-requires c κs = search needs
 
 -- src/gather.rt:67:1
 returns : tie.Need-returns
-returns c = ?
+returns c = λ m k.
+    let n = c .before .before .before .before .set-number .ensures .0 in
+    c .made .ensures
+    ∙ ap (λ (x : ℕ). parts x (c .before .subtype-of .result) (c .before .before .rows-of .result)) n
+    ∙ ap (λ (x : ℕ). parts (setNumber (setAt (c .before .before .before .before .before .before .before .args .list .places))) x (c .before .before .rows-of .result)) (c .before .subtype-of .ensures)
+    ∙ list-made _ _ m k _ _ (c .before .before .before .unit-set .ensures .0 ∙ ap (λ (x : ℕ). unitSetAs (setOf x)) n) (c .before .before .rows-of .ensures)
 
 pub from-list-spec : {M : Type 1} → statement M
 from-list-spec =

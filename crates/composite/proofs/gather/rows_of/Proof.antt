@@ -80,9 +80,11 @@ loop-less c = search needs
 loop-again : tie.Need-loop-again Inv-loop μ-loop
 loop-again c =
     let a = c .before .before .before .before .before .before .before .args in
-    let l = c .before .before .before .before .loop in
-    (omega arith, row-filled (body (a .bytes .now) (a .t2) (a .set .units)) (l .i) 5 _ _ (omega arith) (l .inv .1)
-    (c .eight .ensures ∙ ap (λ (m : ℕ). take 8 (drop (getD (a .t2) m 0) (a .bytes .now))) (c .before .number .ensures)))
+    let l = c .before .before .before .before .loop in (
+      omega arith,
+      row-filled (body (a .bytes .now) (a .t2) (a .set .units)) (l .i) 5 _ _ (omega arith) (l .inv .1)
+          (c .eight .ensures ∙ ap (λ (m : ℕ). take 8 (drop (getD (a .t2) m 0) (a .bytes .now))) (c .before .number .ensures)),
+    )
 
 -- src/gather.rt:49:1
 returns : tie.Need-returns Inv-loop μ-loop
