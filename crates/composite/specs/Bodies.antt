@@ -8,7 +8,7 @@ use lib.ListN.{length, take, drop, getD, replicate}
 use lib.Dec.{eqb}
 use Rattle.iscc.specs.Answer.{accept}
 use Rattle.iscc.specs.Permitted.{Set, setNumber, unitCount}
-use Rattle.iscc.specs.Meaning.{Meaning, unit, composite, setIn}
+use Rattle.iscc.specs.Meaning.{Meaning, unit, composite, setIn, Permitted}
 use Rattle.iscc.specs.Item.{Item}
 use Rattle.iscc.specs.Items.{compositeFrom}
 use Rattle.iscc.specs.declared.main_type.MainType.{MainType}
@@ -46,11 +46,12 @@ compositeAs (unit m s v body) = parts 0 0 []
 
 -- ---- from a list's summary
 
--- m is the composite that the items of a summary make
+-- m is the permitted composite that the items of a summary make
 pub record Makes (bs : List ℕ) (l : Summary) (m : Meaning) : Type 0 where
   pub items : List Item
   pub summary : Summarizes bs items l
   pub made : compositeFrom items ≡ accept m
+  pub permitted : Permitted m
 
 -- the place of the i-th unit's body
 abbrev pub placeIn : List ℕ → List MainType → ℕ → ℕ
