@@ -19,6 +19,7 @@ pub mod Text
 pub mod Area
 pub mod Demand3
 pub mod Doors
+pub mod Lists
 pub mod Tests
 pub mod CallTests
 pub mod Exactly
