@@ -22,86 +22,50 @@ pub struct UnitSet {
     pub count: usize,
 }
 
+const META: MainType = MainType::META;
+
+const SEMANTIC: MainType = MainType::SEMANTIC;
+
+const CONTENT: MainType = MainType::CONTENT;
+
+const DATA: MainType = MainType::DATA;
+
+const INSTANCE: MainType = MainType::INSTANCE;
+
+const FILL: MainType = MainType::ID;
+
 // By the composite's length number: 4 if META is in, plus 2 if SEMANTIC is in, plus 1 if CONTENT is in.
 const SETS: [UnitSet; 8] = [
     UnitSet {
-        units: [
-            MainType::DATA,
-            MainType::INSTANCE,
-            MainType::ID,
-            MainType::ID,
-            MainType::ID,
-        ],
+        units: [DATA, INSTANCE, FILL, FILL, FILL],
         count: 2,
     },
     UnitSet {
-        units: [
-            MainType::CONTENT,
-            MainType::DATA,
-            MainType::INSTANCE,
-            MainType::ID,
-            MainType::ID,
-        ],
+        units: [CONTENT, DATA, INSTANCE, FILL, FILL],
         count: 3,
     },
     UnitSet {
-        units: [
-            MainType::SEMANTIC,
-            MainType::DATA,
-            MainType::INSTANCE,
-            MainType::ID,
-            MainType::ID,
-        ],
+        units: [SEMANTIC, DATA, INSTANCE, FILL, FILL],
         count: 3,
     },
     UnitSet {
-        units: [
-            MainType::SEMANTIC,
-            MainType::CONTENT,
-            MainType::DATA,
-            MainType::INSTANCE,
-            MainType::ID,
-        ],
+        units: [SEMANTIC, CONTENT, DATA, INSTANCE, FILL],
         count: 4,
     },
     UnitSet {
-        units: [
-            MainType::META,
-            MainType::DATA,
-            MainType::INSTANCE,
-            MainType::ID,
-            MainType::ID,
-        ],
+        units: [META, DATA, INSTANCE, FILL, FILL],
         count: 3,
     },
     UnitSet {
-        units: [
-            MainType::META,
-            MainType::CONTENT,
-            MainType::DATA,
-            MainType::INSTANCE,
-            MainType::ID,
-        ],
+        units: [META, CONTENT, DATA, INSTANCE, FILL],
         count: 4,
     },
     UnitSet {
-        units: [
-            MainType::META,
-            MainType::SEMANTIC,
-            MainType::DATA,
-            MainType::INSTANCE,
-            MainType::ID,
-        ],
+        units: [META, SEMANTIC, DATA, INSTANCE, FILL],
         count: 4,
     },
     UnitSet {
-        units: [
-            MainType::META,
-            MainType::SEMANTIC,
-            MainType::CONTENT,
-            MainType::DATA,
-            MainType::INSTANCE,
-        ],
+        units: [META, SEMANTIC, CONTENT, DATA, INSTANCE],
         count: 5,
     },
 ];
