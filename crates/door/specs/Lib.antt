@@ -1,0 +1,3 @@
+-- What the doors' inner functions answer. Assumes nothing.
+pub mod Places
+pub mod Runs
