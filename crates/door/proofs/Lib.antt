@@ -1,5 +1,6 @@
--- Laws of the cleaning, over plain lists. Assumes nothing.
+-- Laws of the cleaning and of the doors, over plain lists. Assumes nothing.
 pub mod Same
 pub mod Blanks
 pub mod Places
 pub mod Runs
+pub mod Copied

@@ -1,11 +1,12 @@
 -- Two texts compared by index: what is left from i on. Assumes nothing.
-use Prim.Native.Nat.{ℕ, _+_, _≤_, _<_}
-use mathlib.Core.Path.{_≡_}
-use mathlib.Core.Bool.{true, false}
-use mathlib.Core.List.{List}
+use Prim.Native.Nat.{ℕ, suc, _+_, _≤_, _<_}
+use mathlib.Core.Path.{_≡_, refl, ap}
+use mathlib.Core.Bool.{Bool, true, false, _&&_}
+use mathlib.Core.List.{List, [], _∷_}
 use native.Mathlib.Numerals.{add-one}
 use lib.ListN.{length, getD, drop, drop-of-length-le}
 use lib.Seq.{drop-cons}
+use lib.Dec.{eqb}
 use borrow.Author.Tests.{eq-eqb, ne-eqb}
 use Rattle.iscc.specs.Doors.{sameText}
 
@@ -25,3 +26,14 @@ module _ (xs ys : List ℕ) (i : ℕ) where
   pub same-end : length xs ≤ i → length ys ≤ i → sameText (drop i xs) (drop i ys) ≡ true
   unfolding sameText
   same-end h k = rw (drop-of-length-le xs h, drop-of-length-le ys k)
+
+pub same-lengths : (xs ys : List ℕ) → (length xs ≡ length ys → ⊥) → false ≡ sameText xs ys
+unfolding sameText
+same-lengths [] [] n = absurd (n refl)
+same-lengths [] (y ∷ ys) n = refl
+same-lengths (x ∷ xs) [] n = refl
+same-lengths (x ∷ xs) (y ∷ ys) n = go (eqb x y) (same-lengths xs ys (λ e. n (ap suc e)))
+  where
+    go : (b : Bool) → false ≡ sameText xs ys → false ≡ (b && sameText xs ys)
+    go true ih = ih
+    go false ih = refl

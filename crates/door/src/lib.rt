@@ -2,4 +2,5 @@
 pub mod run;
 pub mod scheme;
 pub mod span;
+pub mod text;
 pub mod trim;
