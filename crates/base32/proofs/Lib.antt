@@ -1,0 +1,4 @@
+-- The laws that the functions' proofs cite.
+pub mod Values
+pub mod First
+pub mod Groups
