@@ -2,3 +2,4 @@
 pub mod Values
 pub mod First
 pub mod Groups
+pub mod Lent
