@@ -6,16 +6,16 @@ use mathlib.Core.List.{List, [], _∷_, _++_, map, map-append, append-nil, appen
 use native.Mathlib.Nat.{mod-eq-of-lt, mul-assoc, add-mul, mul-add, mul-comm, add-comm, mul-add-div-right, mul-suc, mul-one, mul-zero, div-one, lt-of-lt-of-le, add-zero, add-assoc}
 use native.Mathlib.Numerals.{add-one}
 use native.Mathlib.Omega.{arith}
-use lib.ListN.{length, take, drop, getD, set, length-append, length-map}
-use lib.Seq.{take-suc, take-add, length-take-le}
+use lib.ListN.{length, take, drop, getD, set, length-append, length-map, length-drop}
+use lib.Seq.{take-suc, take-add, take-all, length-take-le}
 use lib.Arith.{digits-div, digits-lt}
 use lib.Pow.{pow-pos, pow-mono, pow-add, high, low, shl-lt, shr-lt, shl-shr, shr-shr}
 use Rattle.iscc.specs.Digits.{digits, value, Below, digitCount, toDigits, byteCount, spareCount}
 use Rattle.iscc.specs.Alphabet.{Alphabet, charIn, encode}
-use Rattle.iscc.proofs.Digits.{length-digits, digits-below, value-digits, value-inj, value-lt, value-append, value-snoc, digits-append, digits-snoc}
+use Rattle.iscc.proofs.Digits.{length-digits, digits-below, value-digits, value-inj, value-lt, value-append, value-snoc, digits-append, digits-snoc, below-take, below-drop}
 use Rattle.iscc.proofs.ByteDigits.{Counts, counts}
-use Rattle.iscc.proofs.Area.{Written, one-written}
-use Rattle.base32.proofs.Lent.{placed, placed-none, placed-all}
+use Rattle.iscc.proofs.Area.{Written, nothing-written, one-written}
+use Rattle.base32.proofs.Lent.{placed, placed-none, placed-all, more-written}
 
 -- the n low digits of a number are those of its low part
 pub digits-low : (v n hi lo : ℕ) → lo < 2 ^ (v * n) → digits v n (hi * 2 ^ (v * n) + lo) ≡ digits v n lo
@@ -123,3 +123,48 @@ module _ (f : ℕ → ℕ) (v n x : ℕ) where
       let e : i ≡ n = omega (arith, s .within) in
       let z : n - n ≡ 0 = omega arith in
       placed-all j n (map f (digits v n x)) (rw (e, z, mul-zero, div-one) at (s .is)) refl
+
+-- ---- a writer's loop: the first i bytes are written, as o characters
+module _ (a : Alphabet) (pos : 0 < a .bits) (bs d : List ℕ) where
+  pub record Encoded (area : List ℕ) (i o : ℕ) : Type 0 where
+    pub within : i ≤ length bs
+    pub whole : a .bits * o ≡ 8 * i
+    pub is : Written (encode a (take i bs)) d area o
+
+  pub encoded-none : Encoded d 0 0
+  encoded-none = record { within = omega arith; whole = omega arith; is = rw (encode-none a pos) (nothing-written d) }
+
+  module _ {area : List ℕ} {i o : ℕ} (k m x : ℕ) (s : Encoded area i o) (b : Below 256 bs) (room : o + m ≤ length d) (e : x ≡ value 8 (take k (drop i bs))) where
+    -- the characters of the next k bytes, once they are known to be those of m digits of y
+    next : {after : List ℕ} (y : ℕ) → i + k ≤ length bs → encode a (take k (drop i bs)) ≡ map (charIn a) (digits (a .bits) m y) →
+        after ≡ placed area o m (map (charIn a) (digits (a .bits) m y)) → Written (encode a (take (i + k) bs)) d after (o + m)
+    next y l w p =
+        let part : List ℕ = take k (drop i bs) in
+        let q : List ℕ = map (charIn a) (digits (a .bits) m y) in
+        let h : length (take i bs) ≡ i = length-take-le i bs (s .within) in
+        let t : encode a (take (i + k) bs) ≡ encode a (take i bs) ++ q =
+        ap (encode a) (take-add i k bs)
+        ∙ encode-append a pos o (take i bs) part (rw h (s .whole)) (below-take 256 k (drop i bs) (below-drop 256 i bs b))
+        ∙ ap (λ (z : List ℕ). encode a (take i bs) ++ z) w in
+        let c : length q ≡ m = length-map (digits (a .bits) m y) (charIn a) ∙ length-digits (a .bits) m y in
+        rw t (more-written m q (s .is) c room p)
+
+    part-length : i + k ≤ length bs → length (take k (drop i bs)) ≡ k
+    part-length l = length-take-le k (drop i bs) (omega (arith, length-drop i bs))
+
+    -- k bytes that are m digits exactly
+    pub encoded-group : {after : List ℕ} → a .bits * m ≡ 8 * k → i + k ≤ length bs → after ≡ placed area o m (map (charIn a) (digits (a .bits) m x)) → Encoded after (i + k) (o + m)
+    encoded-group w l p =
+        record {
+          within = l;
+          whole = rw (mul-add (a .bits) o m) (omega (arith, s .whole));
+          is = next x l (encode-whole a pos m (take k (drop i bs)) (rw (part-length l) w) ∙ rw (← e)) p;
+        }
+
+    -- the last k bytes, with zeros up to a whole digit
+    pub encoded-rest : {after : List ℕ} (y : ℕ) → m ≡ digitCount (a .bits) k → i + k ≡ length bs → y ≡ x * 2 ^ (a .bits * m - 8 * k) →
+        after ≡ placed area o m (map (charIn a) (digits (a .bits) m y)) → Written (encode a bs) d after (o + m)
+    unfolding encode toDigits
+    encoded-rest y c l f p =
+        let n : length (take k (drop i bs)) ≡ k = part-length (omega arith) in
+        rw (take-all (i + k) bs (omega arith)) at (next y (omega arith) (rw (n, ← c, f, e)) p)
