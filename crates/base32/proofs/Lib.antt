@@ -1,0 +1,5 @@
+-- The laws that the functions' proofs cite.
+pub mod Values
+pub mod First
+pub mod Groups
+pub mod Lent
