@@ -4,3 +4,4 @@ pub mod Blanks
 pub mod Places
 pub mod Runs
 pub mod Copied
+pub mod Texts

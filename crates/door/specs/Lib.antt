@@ -1,3 +1,4 @@
 -- What the doors' inner functions answer. Assumes nothing.
 pub mod Places
 pub mod Runs
+pub mod Codes
