@@ -5,3 +5,4 @@ pub mod Places
 pub mod Runs
 pub mod Copied
 pub mod Texts
+pub mod Payloads

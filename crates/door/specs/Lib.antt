@@ -2,3 +2,4 @@
 pub mod Places
 pub mod Runs
 pub mod Codes
+pub mod Payloads
