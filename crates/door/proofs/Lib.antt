@@ -6,3 +6,4 @@ pub mod Runs
 pub mod Copied
 pub mod Texts
 pub mod Payloads
+pub mod Doors

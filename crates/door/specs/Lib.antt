@@ -2,4 +2,5 @@
 pub mod Places
 pub mod Runs
 pub mod Codes
+pub mod Forms
 pub mod Payloads

@@ -3,5 +3,6 @@ pub mod payload;
 pub mod run;
 pub mod scheme;
 pub mod span;
+pub mod strict;
 pub mod text;
 pub mod trim;
