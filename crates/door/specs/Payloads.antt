@@ -4,14 +4,11 @@ use mathlib.Core.Bool.{cond, _&&_}
 use mathlib.Core.List.{List}
 use lib.ListN.{length}
 use lib.Dec.{ltb, leb}
-use Rattle.iscc.specs.Answer.{Answer, accept, refuse}
 use Rattle.iscc.specs.Lists.{firstNot}
 use Rattle.iscc.specs.Alphabet.{isDigit}
 use Rattle.iscc.specs.Base32.{base32}
 use Rattle.iscc.specs.Doors.{cleaned}
 use Rattle.door.specs.Places.{placeOf}
-use Rattle.door.specs.declared.payload.Payload.{Payload}
-use Rattle.door.specs.declared.payload.Payload.the-variants.{Length, Refused}
 
 -- the first character of the run that is outside the alphabet
 abbrev pub firstBad : List ℕ → ℕ
@@ -24,8 +21,3 @@ badPlace t = cond (ltb (firstBad t) (length (cleaned t))) (placeOf t (firstBad t
 -- where a refusal points: for 4 to that character
 unfoldable pub payloadPlace : List ℕ → ℕ
 payloadPlace t = cond (leb (length t) 1024 && leb (length (cleaned t)) 80) (badPlace t) 0
-
--- how many bytes there are, or why there are none, and where
-abbrev pub payloadAs : ℕ → Answer (List ℕ) → Payload
-payloadAs k (accept bs) = Length (length bs)
-payloadAs k (refuse q) = Refused q k

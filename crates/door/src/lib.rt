@@ -5,4 +5,5 @@ pub mod scheme;
 pub mod span;
 pub mod strict;
 pub mod text;
+pub mod told;
 pub mod trim;

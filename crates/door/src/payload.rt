@@ -3,13 +3,6 @@ ghost use mathlib.Core.Path.{_≡_};
 ghost use Rattle.iscc.specs.Doors.{cleaned};
 ghost use Rattle.door.specs.Payloads.{badPlace};
 use crate::run;
-use iscc::refusal::Refusal;
-
-// How many bytes there are; or why there are none, and for 4 the byte place of the first bad character.
-pub enum Payload {
-    Length(usize),
-    Refused(Refusal, usize),
-}
 
 // The byte place in the text of the first character of its run that is outside the alphabet; 0 where there is none.
 fn bad_place(text: &[u8], chars: &[u8]) -> usize
