@@ -3,7 +3,7 @@
 use Prim.Native.Nat.{ℕ, zero, suc, _+_, _-_, _*_, _/_, _%_, _^_, _≤_, _<_}
 use mathlib.Core.Path.{_≡_, refl, sym, _∙_, ap, ap₂}
 use mathlib.Core.List.{List, [], _∷_, _++_, map, map-append, append-nil, append-assoc}
-use native.Mathlib.Nat.{mod-eq-of-lt, mul-assoc, add-mul, mul-add, mul-comm, add-comm, mul-add-div-right, mul-suc, mul-one, mul-zero, div-one, lt-of-lt-of-le, add-zero, add-assoc}
+use native.Mathlib.Nat.{mod-eq-of-lt, mul-assoc, add-mul, mul-add, mul-comm, add-comm, mul-add-div-right, mul-add-mod-self-right, le-of-suc-le-suc, mul-suc, mul-one, mul-zero, div-one, lt-of-lt-of-le, add-zero, add-assoc}
 use native.Mathlib.Numerals.{add-one}
 use native.Mathlib.Omega.{arith}
 use lib.ListN.{length, take, drop, getD, set, length-append, length-map, length-drop}
@@ -168,3 +168,71 @@ module _ (a : Alphabet) (pos : 0 < a .bits) (bs d : List ℕ) where
     encoded-rest y c l f p =
         let n : length (take k (drop i bs)) ≡ k = part-length (omega arith) in
         rw (take-all (i + k) bs (omega arith)) at (next y (omega arith) (rw (n, ← c, f, e)) p)
+
+-- ---- a reader's loop: the first i digits of ds are written, as o bytes
+
+-- the bits of the first i digits fill o bytes; then those of all i + k fill o more than those of k
+pub byteCount-join : (v i o k : ℕ) → v * i ≡ 8 * o → byteCount v (i + k) ≡ o + byteCount v k
+unfolding byteCount
+byteCount-join v i o k e = rw (mul-add v i k) (omega arith)
+
+pub spareCount-join : (v i o k : ℕ) → v * i ≡ 8 * o → spareCount v (i + k) ≡ spareCount v k
+unfolding spareCount
+spareCount-join v i o k e = rw (mul-add v i k, e, mul-comm 8 o) (mul-add-mod-self-right o 8 (v * k))
+
+bits-of : (v k : ℕ) → v * k ≡ 8 * byteCount v k + spareCount v k
+unfolding byteCount spareCount
+bits-of v k = omega arith
+
+module _ (v : ℕ) (ds : List ℕ) (i o k x : ℕ) (w : v * i ≡ 8 * o) (l : i + k ≤ length ds) (e : x ≡ value v (take k (drop i ds))) where
+  value-next : value v (take (i + k) ds) ≡ value v (take i ds) * 2 ^ (v * k) + x
+  value-next =
+      let n : length (take k (drop i ds)) ≡ k = length-take-le k (drop i ds) (omega (arith, length-drop i ds)) in
+      ap (value v) (take-add i k ds) ∙ value-append v (take i ds) (take k (drop i ds)) ∙ rw (n, ← e)
+
+  value-rest : i + k ≡ length ds → value v ds ≡ value v (take i ds) * 2 ^ (8 * byteCount v k) * 2 ^ spareCount v k + x
+  value-rest all =
+      ap (value v) (sym (take-all (i + k) ds (omega arith))) ∙ value-next ∙ rw (bits-of v k, pow-add, mul-assoc)
+
+  -- the spare bits of all digits are those of the last k
+  pub spare-rest : i + k ≡ length ds → value v ds % 2 ^ spareCount v (length ds) ≡ x % 2 ^ spareCount v k
+  spare-rest all =
+      rw (← all, spareCount-join v i o k w, value-rest all) (mul-add-mod-self-right (value v (take i ds) * 2 ^ (8 * byteCount v k)) (2 ^ spareCount v k) x)
+
+module _ (v : ℕ) (ds d : List ℕ) where
+  pub record Decoded (area : List ℕ) (i o : ℕ) : Type 0 where
+    pub within : i ≤ length ds
+    pub whole : v * i ≡ 8 * o
+    pub is : Written (digits 8 o (value v (take i ds))) d area o
+
+  pub decoded-none : Decoded d 0 0
+  unfolding digits
+  decoded-none = record { within = omega arith; whole = omega arith; is = nothing-written d }
+
+  module _ {area : List ℕ} {i o : ℕ} (k m x : ℕ) (s : Decoded area i o) (room : o + m ≤ length d) (e : x ≡ value v (take k (drop i ds))) (b : x < 2 ^ (v * k)) where
+    -- k digits that are m bytes exactly
+    pub decoded-group : {after : List ℕ} → v * k ≡ 8 * m → i + k ≤ length ds → after ≡ placed area o m (digits 8 m x) → Decoded after (i + k) (o + m)
+    decoded-group w l p =
+        let t : digits 8 (o + m) (value v (take (i + k) ds)) ≡ digits 8 o (value v (take i ds)) ++ digits 8 m x =
+        rw (value-next v ds i o k x (s .whole) l e, w) (digits-join 8 o m (value v (take i ds)) x (rw (← w) b)) in
+        record {
+          within = l;
+          whole = rw (mul-add v i k) (omega (arith, s .whole));
+          is = rw t (more-written m (digits 8 m x) (s .is) (length-digits 8 m x) room p);
+        }
+
+    -- the last k digits, less their spare bits
+    pub decoded-rest : {after : List ℕ} (y : ℕ) → m ≡ byteCount v k → i + k ≡ length ds → y ≡ x / 2 ^ spareCount v k → after ≡ placed area o m (digits 8 m y) →
+        Written (digits 8 (byteCount v (length ds)) (value v ds / 2 ^ spareCount v (length ds))) d after (o + m)
+    decoded-rest y c all f p =
+        let hi : ℕ = value v (take i ds) in
+        let q : ℕ = spareCount v k in
+        let h : y < 2 ^ (8 * m) = rw (f, c) (shr-lt (8 * byteCount v k) q (rw (← bits-of v k) b)) in
+        let u : value v ds / 2 ^ q ≡ hi * 2 ^ (8 * m) + y = rw (value-rest v ds i o k x (s .whole) (omega arith) e all, f, c) (mul-add-div-right (pow-pos q) (hi * 2 ^ (8 * byteCount v k)) x) in
+        rw (← all, byteCount-join v i o k (s .whole), spareCount-join v i o k (s .whole), ← c, u, digits-join 8 o m hi y h)
+        (more-written m (digits 8 m y) (s .is) (length-digits 8 m y) room p)
+
+pub map-at : (f : ℕ → ℕ) (xs : List ℕ) (i : ℕ) → i < length xs → getD (map f xs) i 0 ≡ f (getD xs i 0)
+map-at f [] i h = absurd (omega arith)
+map-at f (x ∷ xs) zero h = refl
+map-at f (x ∷ xs) (suc i) h = map-at f xs i (le-of-suc-le-suc h)

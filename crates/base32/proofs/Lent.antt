@@ -8,7 +8,7 @@ use lib.ListN.{length, take, drop, length-append, take-append-drop}
 use lib.Seq.{length-take-le, take-at, drop-at, drop-drop}
 use lib.Dec.{leb}
 use borrow.Author.Tests.{le-leb, lt-leb}
-use Rattle.iscc.specs.Refusals.{areaTooShort}
+use Rattle.iscc.specs.Refusals.{Refusal, areaTooShort}
 use Rattle.iscc.specs.Answer.{Answer, accept, refuse, into, areaAfter}
 use Rattle.iscc.specs.Forms.{writtenAs}
 use Rattle.iscc.specs.declared.written.Written as code
@@ -55,3 +55,7 @@ filled {xs} {d} {area} {j} w e =
     let h : length xs ≤ length d = omega (arith, w .count, w .room) in
     let a = all-written w in
     rw (le-leb (length xs) (length d) h) (e ∙ ap Length (a .0), a .1)
+
+pub refused : (d : List ℕ) {x : Answer (List ℕ)} {q : Refusal} {r : code.Written} → x ≡ refuse q → r ≡ Refused q →
+    (r ≡ writtenAs (into (length d) x)) × (d ≡ areaAfter (into (length d) x) d)
+refused d e p = rw e (p, refl)

@@ -1,5 +1,6 @@
 -- The laws that the functions' proofs cite.
 pub mod Values
 pub mod First
-pub mod Groups
 pub mod Lent
+pub mod Groups
+pub mod Tests

@@ -1,9 +1,17 @@
 // Text to bytes.
 ghost use mathlib.Core.Path.{_≡_};
-ghost use Prim.Native.Nat.{_≤_};
+ghost use mathlib.Core.List.{_++_, map};
+ghost use Prim.Native.Nat.{_+_, _*_, _/_, _%_, _^_, _<_, _≤_};
+ghost use lib.Dec.{ltb};
+ghost use lib.ListN.{length, take, drop};
+ghost use Rattle.iscc.specs.Answer.{areaAfter};
 ghost use Rattle.iscc.specs.Alphabet.{digitIn, isDigit};
-ghost use Rattle.iscc.specs.Base32.{base32};
+ghost use Rattle.iscc.specs.Base32.{base32, readBase32};
+ghost use Rattle.iscc.specs.Digits.{digits, value, Below, byteCount, spareCount};
+ghost use Rattle.iscc.specs.Forms.{writtenAs};
 ghost use Rattle.iscc.specs.Lists.{firstNot};
+use iscc::refusal::Refusal;
+use iscc::written::Written;
 
 // The digit of a character in either case, or 32 where it has none.
 pub fn digit_of(c: u8) -> u8
@@ -29,4 +37,114 @@ pub fn first_bad(text: &[u8]) -> usize
         i += 1;
     }
     i
+}
+
+// The digit of a character that has one.
+fn digit(c: u8) -> u64
+    requires { ⌜ digitIn base32 c < 32 ⌝ }
+    ensures { λ r. ⌜ (r ≡ digitIn base32 c) × (r < 32) ⌝ }
+{
+    digit_of(c) as u64
+}
+
+// The number that the digits of `count` characters from `at` on make, the first one highest.
+fn load(text: &[u8], at: usize, count: usize) -> u64
+    requires { ⌜ Below 32 (map (digitIn base32) (now text)) ⌝ }
+    requires { ⌜ (count ≤ 8) × (at + count ≤ length (now text)) ⌝ }
+    ensures { λ r. ⌜ (r ≡ value 5 (take count (drop at (map (digitIn base32) (now (text .entry)))))) × (r < 2 ^ (5 * count)) ⌝ }
+{
+    let mut number: u64 = 0;
+    let mut i = 0;
+    while i < count {
+        number = number * 32 + digit(text[at + i]);
+        i += 1;
+    }
+    number
+}
+
+// The low `count` bytes of a number, from `at` on.
+fn put(number: u64, count: usize, out: &mut [u8], at: usize)
+    requires { ⌜ (count ≤ 5) × (at + count ≤ length (now out)) ⌝ }
+    ensures { λ _. ⌜ now (out .exit) ≡ take at (now (out .entry)) ++ (digits 8 count number ++ drop (at + count) (now (out .entry))) ⌝ }
+{
+    let mut i = 0;
+    while i < count {
+        let shift: usize = (count - 1 - i) * 8;
+        out[at + i] = ((number >> shift) % 256) as u8;
+        i += 1;
+    }
+}
+
+// Whether a text of n characters is that of whole bytes: not if n is 1, 3 or 6 over a multiple of 8.
+fn whole_count(n: usize) -> bool
+    ensures { λ r. ⌜ r ≡ ltb (spareCount 5 n) 5 ⌝ }
+{
+    let over = n % 8;
+    if over == 1 {
+        return false;
+    }
+    if over == 3 {
+        return false;
+    }
+    over != 6
+}
+
+// How many whole bytes n characters hold.
+fn byte_length(n: usize) -> usize
+    ensures { λ r. ⌜ r ≡ byteCount 5 n ⌝ }
+{
+    n / 8 * 5 + n % 8 * 5 / 8
+}
+
+// The spare bits behind the last whole byte, as a number.
+fn spare(text: &[u8]) -> u64
+    requires { ⌜ Below 32 (map (digitIn base32) (now text)) ⌝ }
+    ensures { λ r. ⌜ r ≡ value 5 (map (digitIn base32) (now (text .entry))) % 2 ^ spareCount 5 (length (now (text .entry))) ⌝ }
+{
+    let n = text.len();
+    let rest = n % 8;
+    let bits: usize = rest * 5 % 8;
+    load(text, n - rest, rest) % (1 << bits)
+}
+
+// Writes the bytes of the text to the front of an area that has room for them: eight characters as five bytes, then the rest.
+fn fill(text: &[u8], out: &mut [u8])
+    requires { ⌜ Below 32 (map (digitIn base32) (now text)) ⌝ }
+    requires { ⌜ byteCount 5 (length (now text)) ≤ length (now out) ⌝ }
+    ensures { λ _. ⌜ now (out .exit) ≡ digits 8 (byteCount 5 (length (now (text .entry)))) (value 5 (map (digitIn base32) (now (text .entry))) / 2 ^ spareCount 5 (length (now (text .entry)))) ++ drop (byteCount 5 (length (now (text .entry)))) (now (out .entry)) ⌝ }
+{
+    let n = text.len();
+    let mut i = 0;
+    let mut o = 0;
+    while 8 <= n - i {
+        put(load(text, i, 8), 5, out, o);
+        i += 8;
+        o += 5;
+    }
+    let rest = n - i;
+    let bits: usize = rest * 5 % 8;
+    put(load(text, i, rest) >> bits, rest * 5 / 8, out, o);
+}
+
+// Writes the bytes of the text to the front of the area. Gives, in this order: 4 for a character outside the alphabet, 5 for a count
+// of characters that no bytes have, 6 for a spare bit that is not zero, 15 where the area is too short.
+pub fn read(text: &[u8], out: &mut [u8]) -> Written
+    ensures answer { λ r. ⌜ r ≡ writtenAs (readBase32 (now (text .entry)) (length (now (out .entry)))) ⌝ }
+    ensures area { λ _. ⌜ now (out .exit) ≡ areaAfter (readBase32 (now (text .entry)) (length (now (out .entry)))) (now (out .entry)) ⌝ }
+{
+    if first_bad(text) < text.len() {
+        return Written::Refused(Refusal::BAD_CHARACTER);
+    }
+    if !whole_count(text.len()) {
+        return Written::Refused(Refusal::BAD_COUNT);
+    }
+    if spare(text) != 0 {
+        return Written::Refused(Refusal::SPARE_BITS);
+    }
+    let count = byte_length(text.len());
+    if out.len() < count {
+        return Written::Refused(Refusal::AREA_TOO_SHORT);
+    }
+    fill(text, out);
+    Written::Length(count)
 }
