@@ -1,13 +1,12 @@
 -- The doors by the bytes of the code: what intake writes, and what the strict door compares. Assumes nothing.
 use Prim.Native.Nat.{ℕ, _≤_, _<_}
-use mathlib.Core.Path.{_≡_, refl, sym, _∙_, ap, subst}
+use mathlib.Core.Path.{_≡_, refl, subst}
 use mathlib.Core.Bool.{Bool, true, false, cond}
-use mathlib.Core.List.{List, _++_}
-use lib.ListN.{length, take, drop}
-use lib.Dec.{leb}
+use mathlib.Core.List.{List}
+use lib.ListN.{length}
 use borrow.Author.Tests.{le-leb, lt-leb}
-use Rattle.iscc.specs.Refusals.{Refusal, areaTooShort, otherText}
-use Rattle.iscc.specs.Answer.{Answer, accept, refuse, _>>=_, _>>_, _otherwise_, areaAfter}
+use Rattle.iscc.specs.Refusals.{areaTooShort, otherText}
+use Rattle.iscc.specs.Answer.{Answer, accept, refuse, _>>=_, _>>_, _otherwise_}
 use Rattle.iscc.specs.Meaning.{Meaning}
 use Rattle.iscc.specs.Item.{itemBytes, itemOf}
 use Rattle.iscc.specs.Doors.{sameText, meaningOfText, textOf, intake, strict}

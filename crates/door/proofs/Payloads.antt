@@ -1,11 +1,9 @@
 -- The bytes that a typed text holds: the outcome from its tests. Assumes nothing.
 use Prim.Native.Nat.{ℕ, zero, suc, _-_, _*_, _/_, _≤_, _<_}
 use mathlib.Core.Path.{_≡_, refl, sym, _∙_, ap}
-use mathlib.Core.Bool.{true}
 use mathlib.Core.List.{List}
 use native.Mathlib.Omega.{arith}
 use lib.ListN.{length, take}
-use lib.Dec.{leb}
 use borrow.Author.Tests.{lt-ltb, le-ltb, le-leb, lt-leb}
 use Rattle.iscc.specs.Refusals.{Refusal, longText, emptyText, longRun}
 use Rattle.iscc.specs.Answer.{Answer, accept, refuse, into, areaAfter}
@@ -21,13 +19,13 @@ use Rattle.iscc.proofs.Alphabet.{encode-decode}
 use Rattle.iscc.proofs.Base32.{sound32}
 use Rattle.iscc.proofs.Doors.{run-of}
 use Rattle.door.specs.Places.{placeOf}
-use Rattle.door.specs.Runs.{padded, runAs}
+use Rattle.door.specs.Runs.{runAs}
 use Rattle.door.specs.Payloads.{firstBad, badPlace, payloadPlace}
 use Rattle.door.specs.Forms.{toldAs}
 use Rattle.door.specs.declared.run.Run.{Run}
 use Rattle.door.specs.declared.told.Told.{Told}
 use Rattle.door.specs.declared.told.Told.the-variants.{Length, Refused}
-use Rattle.door.proofs.Runs.{padded-front}
+use Rattle.door.proofs.Runs.{padded-front, length-padded}
 
 -- ---- the first bad character
 
@@ -86,24 +84,27 @@ pub payload-long : (t d : List ℕ) → 1024 < length t → Outcome t d (Refused
 unfolding payload payloadPlace
 payload-long t d l = let b = lt-leb (length t) 1024 l in refused t d longText (rw b) (rw b)
 
-module _ (t d : List ℕ) (r : Run) (short : length t ≤ 1024) (of : r ≡ runAs (cleaned t)) where
+module _ (t : List ℕ) (r : Run) (short : length t ≤ 1024) (of : r ≡ runAs (cleaned t)) where
   counted : r .count ≡ length (cleaned t)
   counted = ap (λ (r : Run). r .count) of
 
-  pub payload-empty : r .count ≡ 0 → Outcome t d (Refused emptyText 0) d
+  pub payload-empty : (d : List ℕ) → r .count ≡ 0 → Outcome t d (Refused emptyText 0) d
   unfolding payload decodeRun payloadPlace badPlace
-  payload-empty e =
+  payload-empty d e =
       let a = le-leb (length t) 1024 short in
       let n : length (cleaned t) ≡ 0 = sym counted ∙ e in
       refused t d emptyText (rw (a, n)) (rw (a, n, le-ltb (firstBad t) 0 (omega arith)))
 
-  pub payload-over : 80 < r .count → Outcome t d (Refused longRun 0) d
+  pub payload-over : (d : List ℕ) → 80 < r .count → Outcome t d (Refused longRun 0) d
   unfolding payload decodeRun payloadPlace
-  payload-over l =
+  payload-over d l =
       let a = le-leb (length t) 1024 short in
       let n = counted in
       let b = lt-leb (length (cleaned t)) 80 (omega arith) in
       refused t d longRun (rw (a, lt-ltb 0 (length (cleaned t)) (omega arith), b)) (rw (a, b))
+
+  pub chars-length : length (r .chars) ≡ 80
+  chars-length = ap (λ (r : Run). length (r .chars)) of ∙ length-padded 80 (cleaned t)
 
   -- ---- 4, 5, 6: as the base32 reader says, which has room for 50 bytes
   module _ (some : r .count ≡ 0 → ⊥) (most : r .count ≤ 80) where
@@ -130,7 +131,7 @@ module _ (t d : List ℕ) (r : Run) (short : length t ≤ 1024) (of : r ≡ runA
           let n = counted in
           rw passed (into-fits area (decode base32 (cleaned t)) (λ bs e. decoded-most (cleaned t) bs area (omega arith) room e) ∙ sym run-decoded)
 
-      module _ (w : Written) (e : List ℕ) (answered : w ≡ writtenAs (readBase32 cs area)) (after : e ≡ areaAfter (readBase32 cs area) d) where
+      module _ (w : Written) (d e : List ℕ) (answered : w ≡ writtenAs (readBase32 cs area)) (after : e ≡ areaAfter (readBase32 cs area) d) where
         area-after : e ≡ areaAfter (payload t) d
         area-after = after ∙ ap (λ (x : Answer (List ℕ)). areaAfter x d) read-is
 

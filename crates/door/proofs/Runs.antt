@@ -3,7 +3,7 @@ use Prim.Native.Nat.{ℕ, suc, _+_, _-_, _≤_, _<_}
 use mathlib.Core.Path.{_≡_, refl, sym, _∙_, ap}
 use mathlib.Core.List.{List, [], _∷_, _++_}
 use native.Mathlib.Omega.{arith}
-use lib.ListN.{length, getD, take, set, replicate, length-append}
+use lib.ListN.{length, getD, take, set, replicate, length-append, length-take, length-replicate}
 use lib.Seq.{take-all, take-append-le, set-at, append-snoc, take-at}
 use Rattle.iscc.specs.Doors.{dropHyphens}
 use Rattle.iscc.proofs.Text.{dropHyphens-skip, dropHyphens-keep}
@@ -29,6 +29,14 @@ module _ (n : ℕ) (cs : List ℕ) (c : ℕ) where
       let z : n - length cs ≡ 0 = omega arith in
       let y : n - length (cs ++ (c ∷ [])) ≡ 0 = omega arith in
       rw (take-append-le n cs (c ∷ []) l, z, y)
+
+pub length-padded : (n : ℕ) (cs : List ℕ) → length (padded n cs) ≡ n
+unfolding padded
+length-padded n cs =
+    let a = length-append (take n cs) (replicate (n - length cs) 0) in
+    let b = length-take n cs in
+    let r = length-replicate {A = ℕ} (n - length cs) 0 in
+    omega arith
 
 -- the characters of a run that has room
 pub padded-front : (n : ℕ) (cs : List ℕ) → length cs ≤ n → take (length cs) (padded n cs) ≡ cs

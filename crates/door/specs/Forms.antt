@@ -2,7 +2,6 @@
 use Prim.Native.Nat.{ℕ}
 use mathlib.Core.List.{List}
 use lib.ListN.{length}
-use Rattle.iscc.specs.Refusals.{Refusal}
 use Rattle.iscc.specs.Answer.{Answer, accept, refuse}
 use Rattle.iscc.specs.Meaning.{Meaning}
 use Rattle.door.specs.declared.strict.Checked.{Checked}

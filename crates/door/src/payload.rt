@@ -1,8 +1,15 @@
 // The bytes that a typed text holds.
 ghost use mathlib.Core.Path.{_≡_};
-ghost use Rattle.iscc.specs.Doors.{cleaned};
-ghost use Rattle.door.specs.Payloads.{badPlace};
+ghost use Prim.Native.Nat.{_≤_};
+ghost use lib.ListN.{length};
+ghost use Rattle.iscc.specs.Answer.{areaAfter};
+ghost use Rattle.iscc.specs.Doors.{cleaned, payload};
+ghost use Rattle.door.specs.Payloads.{badPlace, payloadPlace};
+ghost use Rattle.door.specs.Forms.{toldAs};
 use crate::run;
+use crate::told::Told;
+use iscc::refusal::Refusal;
+use iscc::written::Written;
 
 // The byte place in the text of the first character of its run that is outside the alphabet; 0 where there is none.
 fn bad_place(text: &[u8], chars: &[u8]) -> usize
@@ -14,4 +21,27 @@ fn bad_place(text: &[u8], chars: &[u8]) -> usize
         return run::place(text, bad);
     }
     0
+}
+// Writes the bytes of the run to the front of an area that has room for 50. Gives 2, 1, 3, 4, 5, 6 in this order.
+pub fn payload_of(text: &[u8], out: &mut [u8]) -> Told
+    requires { ⌜ 50 ≤ length (now out) ⌝ }
+    ensures answer { λ r. ⌜ r ≡ toldAs (payloadPlace (now (text .entry))) (payload (now (text .entry))) ⌝ }
+    ensures area { λ _. ⌜ now (out .exit) ≡ areaAfter (payload (now (text .entry))) (now (out .entry)) ⌝ }
+{
+    if 1024 < text.len() {
+        return Told::Refused(Refusal::LONG_TEXT, 0);
+    }
+    let run = run::clean(text);
+    let count = run.count;
+    if count == 0 {
+        return Told::Refused(Refusal::EMPTY_TEXT, 0);
+    }
+    if 80 < count {
+        return Told::Refused(Refusal::LONG_RUN, 0);
+    }
+    let chars = run.chars;
+    match base32::reader::read(&chars[0..count], out) {
+        Written::Length(n) => Told::Length(n),
+        Written::Refused(q) => Told::Refused(q, bad_place(text, &chars[0..count])),
+    }
 }
