@@ -11,6 +11,9 @@ use crate::told::Told;
 use iscc::refusal::Refusal;
 use iscc::written::Written;
 
+// The longest text that is looked at, in bytes.
+pub const LONGEST: usize = 1024;
+
 // The byte place in the text of the first character of its run that is outside the alphabet; 0 where there is none.
 fn bad_place(text: &[u8], chars: &[u8]) -> usize
     requires { ⌜ now chars ≡ cleaned (now text) ⌝ }
@@ -22,13 +25,14 @@ fn bad_place(text: &[u8], chars: &[u8]) -> usize
     }
     0
 }
+
 // Writes the bytes of the run to the front of an area that has room for 50. Gives 2, 1, 3, 4, 5, 6 in this order.
-pub fn payload_of(text: &[u8], out: &mut [u8]) -> Told
+pub fn read(text: &[u8], out: &mut [u8]) -> Told
     requires { ⌜ 50 ≤ length (now out) ⌝ }
     ensures answer { λ r. ⌜ r ≡ toldAs (payloadPlace (now (text .entry))) (payload (now (text .entry))) ⌝ }
     ensures area { λ _. ⌜ now (out .exit) ≡ areaAfter (payload (now (text .entry))) (now (out .entry)) ⌝ }
 {
-    if 1024 < text.len() {
+    if LONGEST < text.len() {
         return Told::Refused(Refusal::LONG_TEXT, 0);
     }
     let run = run::clean(text);
@@ -36,7 +40,7 @@ pub fn payload_of(text: &[u8], out: &mut [u8]) -> Told
     if count == 0 {
         return Told::Refused(Refusal::EMPTY_TEXT, 0);
     }
-    if 80 < count {
+    if run::MOST < count {
         return Told::Refused(Refusal::LONG_RUN, 0);
     }
     let chars = run.chars;

@@ -1,9 +1,9 @@
--- `door::payload::payload_of` meets its contract. Assumes nothing.
+-- `door::payload::read` meets its contract. Assumes nothing.
 use native.Mathlib.Omega.{arith}
 use Rattle.door.proofs.Payloads.{payload-long, payload-empty, payload-over, chars-length, characters, payload-accepted, payload-refused}
 use borrow.Author.Needs.{needs}
-use Rattle.door.proofs.payload.payload_of.Statement.{statement}
-use Rattle.door.proofs.payload.payload_of.Tie as tie
+use Rattle.door.proofs.payload.read.Statement.{statement}
+use Rattle.door.proofs.payload.read.Tie as tie
 
 returns : tie.Need-returns
 returns c = payload-long _ _ (c .if1 .taken)
@@ -44,8 +44,8 @@ returns-5 c =
     let k = e .before .before in
     payload-refused _ _ (k .before .if1 .left) (k .clean .ensures) (e .before .if2 .left) (e .if3 .left) _ _ (characters _ _ (k .before .if1 .left) (k .clean .ensures) (e .before .if2 .left) (e .if3 .left)) (k .before .before .before .before .pre) _ _ _ (w .read .ensures .0) (w .read .ensures .1) _ _ (c .before .before .before .before .q .given .1) (c .bad-place .ensures)
 
-pub payload-of-spec : {M : Type 1} → statement M
-payload-of-spec =
+pub read-spec : {M : Type 1} → statement M
+read-spec =
     tie.close
     (tie.spec
     returns
