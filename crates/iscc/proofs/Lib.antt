@@ -18,4 +18,5 @@ pub mod Text
 pub mod Area
 pub mod Demand3
 pub mod Doors
+pub mod Lists
 pub mod Tests

@@ -34,7 +34,7 @@ and-four true false true d = refl
 and-four true false false d = refl
 and-four false b c d = refl
 
-eqb-comm : (x y : ℕ) → eqb x y ≡ eqb y x
+pub eqb-comm : (x y : ℕ) → eqb x y ≡ eqb y x
 eqb-comm x y = elim (ℕ-discrete x y) [ yes e ↦ rw e | no d ↦ ne-eqb x y d ∙ sym (ne-eqb y x (λ e. d (sym e))) ]
 
 every-same : (p : Item → Bool) {is js : List Item} → Reordered is js → every p is ≡ every p js

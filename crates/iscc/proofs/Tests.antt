@@ -30,6 +30,7 @@ use Rattle.iscc.specs.Refusals.{Refusal, badHeader, lacksDataOrInstance,
 use Rattle.iscc.specs.Answer.{Answer, accept, refuse, _>>=_, _>>_, _otherwise_, into}
 use Rattle.iscc.specs.Digits.{Below, fromDigits, allBelow, spareCount, value}
 use Rattle.iscc.specs.Lists.{every, pairwise, firstNot, firstClash}
+use Rattle.iscc.proofs.Lists.{clear, clear-all}
 use Rattle.iscc.specs.Tests.{Rule, HoldAt, BrokenAt, First, AllHold, By, rule, once, headHolds, meaningStages, present, listStages, clearAt, itemTest, itemStage, headerReads, headerPermitted, bodyThere, digitStages, runStages, doorStages, strictStages, intakeStages, textStages, orNone, joinAllStages, readStages, joinStages, after, itemAt}
 
 -- ---- how the answers of a definition's steps make the whole's
@@ -112,64 +113,7 @@ module _ {A : Type 0} (p : A → Bool) where
 
 -- ---- the first element that does not go with one before result
 
-and-one : (a : Bool) → a && true ≡ a
-and-one true = refl
-and-one false = refl
-
-and-assoc : (a b c : Bool) → a && (b && c) ≡ (a && b) && c
-and-assoc true b c = refl
-and-assoc false b c = refl
-
-and-four : (a b c d : Bool) → (a && b) && (c && d) ≡ (a && c) && (b && d)
-and-four true true c d = refl
-and-four true false true d = refl
-and-four true false false d = refl
-and-four false b c d = refl
-
-every-append : {A : Type 0} (p : A → Bool) (xs : List A) (y : A) → every p (xs ++ (y ∷ [])) ≡ every p xs && p y
-unfolding every
-every-append p [] y = and-one (p y)
-every-append p (x ∷ xs) y = rw (every-append p xs y) (and-assoc (p x) (every p xs) (p y))
-
-every-and : {A : Type 0} (p q : A → Bool) (xs : List A) → every (λ x. p x && q x) xs ≡ every p xs && every q xs
-unfolding every
-every-and p q [] = refl
-every-and p q (x ∷ xs) = rw (every-and p q xs) (and-four (p x) (q x) (every p xs) (every q xs))
-
-every-same : {A : Type 0} (p q : A → Bool) → ((x : A) → p x ≡ q x) → (xs : List A) → every p xs ≡ every q xs
-unfolding every
-every-same p q f [] = refl
-every-same p q f (x ∷ xs) = rw (f x, every-same p q f xs)
-
-every-true : {A : Type 0} (xs : List A) → every (λ _. true) xs ≡ true
-unfolding every
-every-true [] = refl
-every-true (x ∷ xs) = every-true xs
-
 module _ {A : Type 0} (r : A → A → Bool) where
-  -- each goes with those before it, and with what stands in front
-  unfoldable clear : List A → List A → Bool
-  clear before [] = true
-  clear before (x ∷ xs) = every (λ e. r e x) before && clear (before ++ (x ∷ [])) xs
-
-  clear-is : (before xs : List A) → clear before xs ≡ every (λ x. every (λ e. r e x) before) xs && pairwise r xs
-  unfolding clear pairwise every
-  clear-is before [] = refl
-  clear-is before (x ∷ xs) =
-      let a : every (λ y. every (λ e. r e y) (before ++ (x ∷ []))) xs ≡ every (λ y. every (λ e. r e y) before) xs && every (r x) xs =
-      every-same (λ y. every (λ e. r e y) (before ++ (x ∷ []))) (λ y. every (λ e. r e y) before && r x y) (λ y. every-append (λ e. r e y) before x) xs
-      ∙ every-and (λ y. every (λ e. r e y) before) (r x) xs in
-      rw (clear-is (before ++ (x ∷ [])) xs, a) (regroup (every (λ e. r e x) before) (every (λ y. every (λ e. r e y) before) xs) (every (r x) xs) (pairwise r xs))
-    where
-      regroup : (a b c d : Bool) → a && (b && c && d) ≡ (a && b) && (c && d)
-      regroup true true c d = refl
-      regroup true false c d = refl
-      regroup false b c d = refl
-
-  clear-all : (xs : List A) → clear [] xs ≡ pairwise r xs
-  unfolding every
-  clear-all xs = clear-is [] xs ∙ rw (every-true xs)
-
   abbrev clearIn : List A → List A → ℕ → Bool
   clearIn before xs j = headHolds (λ x. every (λ e. r e x) (before ++ take j xs)) (drop j xs)
 
@@ -179,21 +123,21 @@ module _ {A : Type 0} (r : A → A → Bool) where
   first-in : (before xs : List A) (x : A) → clearIn before (x ∷ xs) 0 ≡ every (λ e. r e x) before
   first-in before xs x = ap (every (λ e. r e x)) (append-nil before)
 
-  clear-holds : (before xs : List A) → clear before xs ≡ true → (j : ℕ) → clearIn before xs j ≡ true
+  clear-holds : (before xs : List A) → clear r before xs ≡ true → (j : ℕ) → clearIn before xs j ≡ true
   unfolding clear
   clear-holds before [] e zero = refl
   clear-holds before [] e (suc j) = refl
   clear-holds before (x ∷ xs) e zero = first-in before xs x ∙ and-true (every (λ e. r e x) before) _ e .0
   clear-holds before (x ∷ xs) e (suc j) = sym (next-in before xs x j) ∙ clear-holds (before ++ (x ∷ [])) xs (and-true (every (λ e. r e x) before) _ e .1) j
 
-  clear-broken : (before xs : List A) → clear before xs ≡ false
+  clear-broken : (before xs : List A) → clear r before xs ≡ false
       → ((j : ℕ) → j < firstClash r before xs → clearIn before xs j ≡ true) × (clearIn before xs (firstClash r before xs) ≡ false)
   unfolding clear firstClash
   clear-broken before [] e = let z : _≡_ {A = ℕ} 0 1 = cc in absurd (omega arith)
   clear-broken before (x ∷ xs) e = go (every (λ e. r e x) before) refl e (clear-broken (before ++ (x ∷ [])) xs)
     where
-      go : (b : Bool) → every (λ e. r e x) before ≡ b → b && clear (before ++ (x ∷ [])) xs ≡ false
-          → (clear (before ++ (x ∷ [])) xs ≡ false → ((j : ℕ) → j < firstClash r (before ++ (x ∷ [])) xs → clearIn (before ++ (x ∷ [])) xs j ≡ true) × (clearIn (before ++ (x ∷ [])) xs (firstClash r (before ++ (x ∷ [])) xs) ≡ false))
+      go : (b : Bool) → every (λ e. r e x) before ≡ b → b && clear r (before ++ (x ∷ [])) xs ≡ false
+          → (clear r (before ++ (x ∷ [])) xs ≡ false → ((j : ℕ) → j < firstClash r (before ++ (x ∷ [])) xs → clearIn (before ++ (x ∷ [])) xs j ≡ true) × (clearIn (before ++ (x ∷ [])) xs (firstClash r (before ++ (x ∷ [])) xs) ≡ false))
           → ((j : ℕ) → j < cond b (suc (firstClash r (before ++ (x ∷ [])) xs)) 0 → clearIn before (x ∷ xs) j ≡ true) × (clearIn before (x ∷ xs) (cond b (suc (firstClash r (before ++ (x ∷ [])) xs)) 0) ≡ false)
       go true q f ih = ((λ j l. from j l), sym (next-in before xs x (firstClash r (before ++ (x ∷ [])) xs)) ∙ ih f .1)
         where

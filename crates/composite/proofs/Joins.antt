@@ -1,0 +1,172 @@
+-- What a list's verdict says of the bytes that are written. Assumes nothing.
+use Prim.Native.Nat.{ℕ, zero, suc, _+_, _≤_, _<_}
+use mathlib.Core.Path.{_≡_, refl, sym, _∙_, ap, subst, subst⁻¹}
+use mathlib.Core.Bool.{Bool, true, false, cond, not}
+use mathlib.Core.List.{List, [], _∷_, _++_, append-nil}
+use native.Mathlib.Omega.{arith}
+use lib.ListN.{length, drop}
+use lib.Dec.{eqb, leb}
+use borrow.Author.Tests.{le-leb, eq-eqb, ne-eqb}
+use Rattle.iscc.specs.Refusals.{Refusal, notJoinable, lacksDataOrInstance}
+use Rattle.iscc.specs.Answer.{Answer, accept, refuse, _>>=_, _>>_, _otherwise_, into, areaAfter}
+use Rattle.iscc.specs.Digits.{Below}
+use Rattle.iscc.specs.Meaning.{Meaning, composite, Permitted}
+use Rattle.iscc.specs.Varnibble.{Parsed}
+use Rattle.iscc.specs.Item.{Item, readItem, itemBytes, itemOf, meaningOf}
+use Rattle.iscc.specs.Lists.{firstNot}
+use Rattle.iscc.specs.Permitted.{META, SEMANTIC, CONTENT}
+use Rattle.iscc.specs.Items.{bodyIn, subtypeOf, readUpTo, readItems, joinable, compositeFrom, joinedMeaning, joinedBytes, join, meaningOfItems}
+use Rattle.iscc.specs.Forms.{writtenAs}
+use Rattle.iscc.specs.declared.written.Written.{Written}
+use Rattle.iscc.specs.declared.written.Written.the-variants as written
+use Rattle.iscc.proofs.Answer.{answered, accept-inj}
+use Rattle.iscc.proofs.Items.{items-read, composed-permitted}
+use Rattle.units.specs.declared.summary.Summary.{Summary}
+use Rattle.units.specs.declared.reader.Reading.{Reading}
+use Rattle.units.specs.declared.reader.Reading.the-variants as reading
+use Rattle.units.specs.declared.verdict.Verdict.{Verdict}
+use Rattle.units.specs.declared.verdict.Verdict.the-variants as verdict
+use Rattle.units.specs.Summary.{Summarizes}
+use Rattle.units.specs.Reading.{refusedIndex, readingAs}
+use Rattle.units.specs.Verdict.{brokenAt, verdictAs, verdictOf}
+use Rattle.composite.specs.declared.bodies.Composite.{Composite}
+use Rattle.composite.specs.Bodies.{Makes, compositeAs}
+use Rattle.composite.specs.Code.{Sound, codeBytes}
+use Rattle.composite.specs.Joined.{Listed, composedBytes, singleRefusal}
+use Rattle.composite.proofs.Made.{Made, made-of}
+use Rattle.composite.proofs.Bytes.{sound-of, code-of}
+
+-- ---- the composite that is written
+
+module _ (bs : List ℕ) (l : Summary) (m : Meaning) (k : Makes bs l m) (c : Composite) (e : c ≡ compositeAs m) where
+  abbrev of : Made (k .items) m
+  of = made-of (k .items) m (k .made)
+
+  abbrev is : List Item
+  is = k .items
+
+  permitted : Permitted (composite (subtypeOf is) 0 (bodyIn META is) (bodyIn SEMANTIC is) (bodyIn CONTENT is) (of .dataBody) (of .instanceBody))
+  permitted = subst Permitted (sym (of .meaning)) (k .permitted)
+
+  pub makes-sound : Sound c
+  makes-sound =
+      subst⁻¹ Sound (e ∙ ap compositeAs (sym (of .meaning)))
+      (sound-of (subtypeOf is) 0 (of .dataBody) (of .instanceBody) (bodyIn META is) (bodyIn SEMANTIC is) (bodyIn CONTENT is) permitted)
+
+  pub makes-bytes : codeBytes c ≡ itemBytes (itemOf m)
+  makes-bytes =
+      ap codeBytes (e ∙ ap compositeAs (sym (of .meaning)))
+      ∙ code-of (subtypeOf is) 0 (of .dataBody) (of .instanceBody) (bodyIn META is) (bodyIn SEMANTIC is) (bodyIn CONTENT is) permitted
+      ∙ ap (λ (x : Meaning). itemBytes (itemOf x)) (of .meaning)
+
+-- ---- the verdict
+
+by-refused : (k : ℕ) (a : Answer Meaning) (q : Refusal) (j : ℕ) → verdict.Refused q j ≡ verdictAs k a → (a ≡ refuse q) × (k ≡ j)
+by-refused k (accept m) q j e = let z : _≡_ {A = ℕ} 0 1 = cc in absurd (omega arith)
+by-refused k (refuse p) q j e = let s : p ≡ q = cc in let t : k ≡ j = cc in (ap refuse s, t)
+
+by-composite : (k : ℕ) (a : Answer Meaning) → verdict.Composite ≡ verdictAs k a → (m : Meaning) × (a ≡ accept m)
+by-composite k (accept m) e = (m, refl)
+by-composite k (refuse p) e = let z : _≡_ {A = ℕ} 0 1 = cc in absurd (omega arith)
+
+composed-as : (bs : List ℕ) (is : List Item) (m : Meaning) → readItems bs ≡ accept is → compositeFrom is ≡ accept m → composedBytes bs ≡ accept (itemBytes (itemOf m))
+unfolding composedBytes
+composed-as bs is m e f = rw (e, f)
+
+module _ (bs : List ℕ) (l : Summary) (i : Listed bs l) {v : Verdict} (ev : (cs : List ℕ) (is : List Item) → Summarizes cs is l → v ≡ verdictOf is) where
+  verdict-is : v ≡ verdictOf (i .items)
+  verdict-is = ev bs (i .items) (i .summary)
+
+  pub verdict-refuses : (q : Refusal) (j : ℕ) → v ≡ verdict.Refused q j → (composedBytes bs ≡ refuse q) × (brokenAt (i .items) ≡ j)
+  unfolding composedBytes verdictOf
+  verdict-refuses q j e =
+      let r = by-refused (brokenAt (i .items)) (compositeFrom (i .items)) q j (sym e ∙ verdict-is) in
+      (rw (i .read, r .0), r .1)
+
+  pub verdict-makes : Below 256 bs → v ≡ verdict.Composite → (m : Meaning) × Makes bs l m × (composedBytes bs ≡ accept (itemBytes (itemOf m)))
+  unfolding composedBytes verdictOf
+  verdict-makes b e =
+      let r = by-composite (brokenAt (i .items)) (compositeFrom (i .items)) (sym e ∙ verdict-is) in (
+        r .0,
+        record { items = i .items; summary = i .summary; made = r .1; permitted = composed-permitted (i .items) (r .0) (items-read bs (i .items) b (i .read) .permitted) (r .1) },
+        composed-as bs (i .items) (r .0) (i .read) (r .1),
+      )
+
+-- ---- a refusal before anything is written
+
+pub refused-into : (a : Answer (List ℕ)) (d : List ℕ) (q : Refusal) → a ≡ refuse q
+    → (written.Refused q ≡ writtenAs (into (length d) a)) × (d ≡ areaAfter (into (length d) a) d)
+refused-into a d q e = rw e (refl, refl)
+
+-- ---- what the list reader tells
+
+items-told : (k : ℕ) (x : Answer (List Item)) {a : Reading} → a ≡ readingAs k x → a ≡ reading.Items → (is : List Item) × (x ≡ accept is)
+items-told k (accept is) e f = (is, refl)
+items-told k (refuse q) e f = let z : _≡_ {A = ℕ} 0 1 = cc in absurd (omega arith)
+
+refusal-told : (k : ℕ) (x : Answer (List Item)) {a : Reading} (q : Refusal) (j : ℕ) → a ≡ readingAs k x → a ≡ reading.Refused q j → (x ≡ refuse q) × (k ≡ j)
+refusal-told k (accept is) q j e f = let z : _≡_ {A = ℕ} 0 1 = cc in absurd (omega arith)
+refusal-told k (refuse p) q j e f = let s : p ≡ q = cc in let t : k ≡ j = cc in (ap refuse s, t)
+
+-- no list is empty
+never-none : (n : ℕ) (bs : List ℕ) → readUpTo n bs ≡ accept [] → ⊥
+unfolding readUpTo
+never-none zero bs e = let z : _≡_ {A = ℕ} 0 1 = cc in omega arith
+never-none (suc n) bs e =
+    let r = answered (readItem bs) _ e in
+    go (r .0) (leb (length bs) (r .0 .used)) (r .2)
+  where
+    go : (g : Parsed Item) (b : Bool) → cond b (accept (g .result ∷ [])) (readUpTo n (drop (g .used) bs) >>= λ is. accept (g .result ∷ is)) ≡ accept [] → ⊥
+    go g true q = let z : _≡_ {A = ℕ} 0 1 = cc in omega arith
+    go g false q =
+        let w = answered (readUpTo n (drop (g .used) bs)) (λ js. accept (g .result ∷ js)) q in
+        let e₂ : accept (g .result ∷ w .0) ≡ accept [] = w .2 in
+        let z : _≡_ {A = ℕ} 0 1 = cc in
+        omega arith
+
+module _ (bs : List ℕ) {a : Reading} (ea : a ≡ readingAs (refusedIndex bs) (readItems bs)) where
+  pub listed-of : (l : Summary) → ((is : List Item) → readItems bs ≡ accept is → Summarizes bs is l) → a ≡ reading.Items → Listed bs l
+  listed-of l f e = let r = items-told (refusedIndex bs) (readItems bs) ea e in record { items = r .0; read = r .1; summary = f (r .0) (r .1) }
+
+  pub read-refused : (q : Refusal) (j : ℕ) → a ≡ reading.Refused q j → (readItems bs ≡ refuse q) × (refusedIndex bs ≡ j)
+  read-refused q j e = refusal-told (refusedIndex bs) (readItems bs) q j ea e
+
+-- ---- join
+
+pub join-refused : (bs : List ℕ) (q : Refusal) → readItems bs ≡ refuse q → joinedBytes bs ≡ refuse q
+unfolding joinedBytes
+join-refused bs q e = rw e
+
+-- a list has one item, or more
+one-or-more : (bs : List ℕ) (is : List Item) (P : List Item → Type 0) → readItems bs ≡ accept is → ((i : Item) → is ≡ i ∷ [] → P (i ∷ [])) → ((i j : Item) (js : List Item) → is ≡ i ∷ j ∷ js → P (i ∷ j ∷ js)) → P is
+unfolding readItems
+one-or-more bs [] P e f g = absurd (never-none (suc (length bs)) bs e)
+one-or-more bs (i ∷ []) P e f g = f i refl
+one-or-more bs (i ∷ j ∷ js) P e f g = g i j js refl
+
+single-by : (l : Summary) (i : Item) → l .«not_joinable» ≡ firstNot joinable (i ∷ []) → _≡_ {A = Answer Meaning} (joinable i otherwise notJoinable >> refuse lacksDataOrInstance) (refuse (singleRefusal l))
+unfolding singleRefusal firstNot
+single-by l i e = rw e (go (joinable i))
+  where
+    go : (b : Bool) → _≡_ {A = Answer Meaning} (b otherwise notJoinable >> refuse lacksDataOrInstance) (refuse (cond (eqb (cond b 1 0) 0) notJoinable lacksDataOrInstance))
+    go true = refl
+    go false = refl
+
+module _ (bs : List ℕ) (l : Summary) (i : Listed bs l) where
+  pub joins-one : l .count < 2 → joinedBytes bs ≡ refuse (singleRefusal l)
+  unfolding joinedBytes joinedMeaning
+  joins-one h =
+      rw (i .read)
+      (one-or-more bs (i .items) (λ is. length is < 2 → l .«not_joinable» ≡ firstNot joinable is → (joinedMeaning is >>= λ m. accept (itemBytes (itemOf m))) ≡ refuse (singleRefusal l)) (i .read)
+      (λ x q c n. rw (single-by l x n))
+      (λ x y ys q c n. absurd (omega arith))
+      (omega (arith, i .summary .count)) (i .summary .notJoinable))
+
+  pub joins-more : 2 ≤ l .count → joinedBytes bs ≡ composedBytes bs
+  unfolding joinedBytes joinedMeaning composedBytes
+  joins-more h =
+      rw (i .read)
+      (one-or-more bs (i .items) (λ is. 2 ≤ length is → (joinedMeaning is >>= λ m. accept (itemBytes (itemOf m))) ≡ (compositeFrom is >>= λ m. accept (itemBytes (itemOf m)))) (i .read)
+      (λ x q c. absurd (omega arith))
+      (λ x y ys q c. refl)
+      (omega (arith, i .summary .count)))

@@ -1,0 +1,121 @@
+-- Bodies by their index, and parts of areas. Assumes nothing.
+use Prim.Native.Nat.{ℕ, zero, suc, _+_, _-_, _*_, _≤_, _<_}
+use mathlib.Core.Path.{_≡_, refl, sym, _∙_, ap, ap₂}
+use mathlib.Core.List.{List, [], _∷_, _++_, append-assoc, append-nil}
+use native.Mathlib.Nat.{le-of-suc-le-suc, not-suc-le-zero, add-suc, add-zero}
+use native.Mathlib.Numerals.{add-one}
+use native.Mathlib.Omega.{arith}
+use lib.ListN.{length, take, drop, getD, set, replicate, length-append, length-take, length-drop, drop-of-length-le}
+use lib.Seq.{drop-cons, take-all, drop-drop, take-at, drop-at}
+use Rattle.composite.specs.Bodies.{rows, laid}
+
+-- ---- the elements of a part, written out
+
+abbrev pub elems : List ℕ → ℕ → ℕ → ℕ → List ℕ
+elems s at j zero = []
+elems s at j (suc k) = getD s (at + j) 0 ∷ elems s at (suc j) k
+
+elems-from : (s : List ℕ) (at j k : ℕ) → at + j + k ≤ length s → elems s at j k ≡ take k (drop (at + j) s)
+elems-from s at j zero h = refl
+elems-from s at j (suc k) h =
+    let l : at + j < length s = omega arith in
+    rw (drop-cons s (at + j) 0 l)
+    (ap (λ (r : List ℕ). getD s (at + j) 0 ∷ r)
+    (elems-from s at (suc j) k (omega (arith, add-suc at j)) ∙ ap (λ (m : ℕ). take k (drop m s)) (add-suc at j)))
+
+pub elems-part : (s : List ℕ) (at k : ℕ) → at + k ≤ length s → elems s at 0 k ≡ take k (drop at s)
+elems-part s at k h = elems-from s at 0 k (omega arith) ∙ ap (λ (m : ℕ). take k (drop m s)) (add-zero at)
+
+-- a part of eight, put back
+pub put-back : (o row ys : List ℕ) (at : ℕ) → at + 8 ≤ length o → length row ≡ 8
+    → ys ≡ take (length row) row ++ drop (length row) (take (at + 8 - at) (drop at o))
+    → take at o ++ (ys ++ drop (at + 8 - at) (drop at o)) ≡ take at o ++ (row ++ drop (at + 8) o)
+put-back o row ys at h l e =
+    let k : at + 8 - at ≡ 8 = omega arith in
+    let y : ys ≡ row ++ [] = e ∙ ap₂ (λ (p q : List ℕ). p ++ q) (take-all (length row) row (omega arith)) (drop-of-length-le (take (at + 8 - at) (drop at o)) {i = length row} (simp (length-take, length-drop) (omega arith))) in
+    ap₂ (λ (p q : List ℕ). take at o ++ (p ++ q)) (y ∙ append-nil row) (ap (λ (m : ℕ). drop m (drop at o)) k ∙ drop-drop 8 at o)
+
+-- ---- rows
+
+rows-none : (f g : ℕ → List ℕ) (k : ℕ) → rows f 0 k ≡ rows g 0 k
+unfolding rows
+rows-none f g zero = refl
+rows-none f g (suc k) = ap (λ (r : List (List ℕ)). replicate 8 0 ∷ r) (rows-none f g k)
+
+set-row : (f : ℕ → List ℕ) (i k : ℕ) → i < k → set (rows f i k) i (f i) ≡ rows f (suc i) k
+unfolding rows
+set-row f i zero h = absurd (not-suc-le-zero h)
+set-row f zero (suc k) h = ap (λ (r : List (List ℕ)). f 0 ∷ r) (rows-none f (λ i. f (suc i)) k)
+set-row f (suc i) (suc k) h = ap (λ (r : List (List ℕ)). f 0 ∷ r) (set-row (λ i. f (suc i)) i k (le-of-suc-le-suc h))
+
+-- one more row is filled
+pub row-filled : (f : ℕ → List ℕ) (i k : ℕ) (out : List (List ℕ)) (row : List ℕ) → i < k → out ≡ rows f i k → row ≡ f i → set out i row ≡ rows f (i + 1) k
+row-filled f i k out row h eo er = rw (eo, er, add-one) (set-row f i k h)
+
+pub row-at : (f : ℕ → List ℕ) (n k i : ℕ) → i < n → i < k → getD (rows f n k) i [] ≡ f i
+unfolding rows
+row-at f n zero i h l = absurd (not-suc-le-zero l)
+row-at f zero (suc k) i h l = absurd (not-suc-le-zero h)
+row-at f (suc n) (suc k) zero h l = refl
+row-at f (suc n) (suc k) (suc i) h l = row-at (λ i. f (suc i)) n k i (le-of-suc-le-suc h) (le-of-suc-le-suc l)
+
+pub rows-same : (f g : ℕ → List ℕ) → ((i : ℕ) → f i ≡ g i) → (n k : ℕ) → rows f n k ≡ rows g n k
+unfolding rows
+rows-same f g e n zero = refl
+rows-same f g e zero (suc k) = ap (λ (r : List (List ℕ)). replicate 8 0 ∷ r) (rows-same f g e zero k)
+rows-same f g e (suc n) (suc k) = ap₂ (λ (x : List ℕ) (r : List (List ℕ)). x ∷ r) (e 0) (rows-same (λ i. f (suc i)) (λ i. g (suc i)) (λ i. e (suc i)) n k)
+
+pub rows-eight : (f : ℕ → List ℕ) (n k : ℕ) → ((i : ℕ) → i < n → length (f i) ≡ 8) → (i : ℕ) → i < k → length (getD (rows f n k) i []) ≡ 8
+unfolding rows
+rows-eight f n zero e i h = absurd (not-suc-le-zero h)
+rows-eight f zero (suc k) e zero h = refl
+rows-eight f zero (suc k) e (suc i) h = rows-eight f zero k e i (le-of-suc-le-suc h)
+rows-eight f (suc n) (suc k) e zero h = e 0 (omega arith)
+rows-eight f (suc n) (suc k) e (suc i) h = rows-eight (λ i. f (suc i)) n k (λ j l. e (suc j) (omega arith)) i (le-of-suc-le-suc h)
+
+-- ---- parts of one width, laid end to end
+
+laid-suc : (f : ℕ → List ℕ) (i : ℕ) → laid f (suc i) ≡ laid f i ++ f i
+unfolding laid
+laid-suc f i = refl
+
+-- the first i parts of width w are written to the area d
+pub record Laid (f : ℕ → List ℕ) (w : ℕ) (d area : List ℕ) (i : ℕ) : Type 0 where
+  pub count : length (laid f i) ≡ i * w
+  pub is : area ≡ laid f i ++ drop (i * w) d
+  pub same : length area ≡ length d
+
+pub none-laid : (f : ℕ → List ℕ) (w : ℕ) (d : List ℕ) → Laid f w d d 0
+unfolding laid
+none-laid f w d = record { count = omega arith; is = ap (λ (k : ℕ). drop k d) (let z : 0 ≡ 0 * w = omega arith in z); same = refl }
+
+module _ (f : ℕ → List ℕ) (w : ℕ) (d area : List ℕ) (i : ℕ) (l : Laid f w d area i) where
+  -- one part more
+  pub more-laid : (next : List ℕ) → length (f i) ≡ w → length next ≡ length area → next ≡ take (i * w) area ++ (f i ++ drop (i * w + w) area) → Laid f w d next (i + 1)
+  more-laid next e s n =
+      let m : (i + 1) * w ≡ i * w + w = omega arith in
+      let a : laid f (i + 1) ≡ laid f i ++ f i = laid-next in
+      let t : take (i * w) area ≡ laid f i = ap (take (i * w)) (l .is) ∙ take-at (laid f i) (drop (i * w) d) (i * w) (l .count) in
+      let u : drop (i * w + w) area ≡ drop (i * w + w) d =
+      sym (drop-drop w (i * w) area)
+      ∙ ap (drop w) (ap (drop (i * w)) (l .is) ∙ drop-at (laid f i) (drop (i * w) d) (i * w) (l .count))
+      ∙ drop-drop w (i * w) d in
+      record {
+        count = ap length a ∙ length-append (laid f i) (f i) ∙ omega (arith, l .count, e);
+        is = n ∙ rw (t, u, a, m) (sym (append-assoc (laid f i) (f i) (drop (i * w + w) d)));
+        same = s ∙ l .same;
+      }
+    where
+      laid-next : laid f (i + 1) ≡ laid f i ++ f i
+      laid-next = rw add-one (laid-suc f i)
+
+  pub all-laid : (n : ℕ) → i ≡ n → area ≡ laid f n ++ drop (n * w) d
+  all-laid n e = l .is ∙ ap (λ (k : ℕ). laid f k ++ drop (k * w) d) e
+
+pub laid-length : (f : ℕ → List ℕ) (w n : ℕ) → ((i : ℕ) → i < n → length (f i) ≡ w) → length (laid f n) ≡ n * w
+unfolding laid
+laid-length f w zero e = omega arith
+laid-length f w (suc n) e =
+    let a : length (laid f n) ≡ n * w = laid-length f w n (λ i h. e i (omega arith)) in
+    let b : length (f n) ≡ w = e n (omega arith) in
+    length-append (laid f n) (f n) ∙ omega arith

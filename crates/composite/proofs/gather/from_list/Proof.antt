@@ -1,0 +1,59 @@
+-- `from_list` meets its contract. Assumes nothing.
+use Prim.Native.Nat.{ℕ}
+use mathlib.Core.Path.{_∙_, ap}
+use Rattle.iscc.specs.Permitted.{setOf, setNumber}
+use Rattle.iscc.specs.Forms.{unitSetAs}
+use Rattle.composite.specs.Bodies.{parts, setAt}
+use Rattle.composite.proofs.Made.{units-there, list-made}
+use borrow.Author.Needs.{needs}
+use Rattle.composite.proofs.gather.from_list.Statement.{statement}
+use Rattle.composite.proofs.gather.from_list.Tie as tie
+use Rattle.composite.proofs.gather.from_list.Reads as reads
+use Rattle.composite.proofs.gather.from_list.Lts as lts
+use Rattle.composite.proofs.bodies.made.Reads as made-reads
+use Rattle.composite.proofs.gather.rows_of.Reads as rows-of-reads
+use Rattle.composite.proofs.gather.set_number.Reads as set-number-reads
+use Rattle.composite.proofs.gather.subtype_of.Reads as subtype-of-reads
+use Rattle.iscc.proofs.tables.unit_set.Reads as unit-set-reads
+
+-- src/gather.rt:72:9
+set-number-requires : tie.Need-set-number-requires
+set-number-requires c κs = search needs
+
+-- src/gather.rt:73:9
+unit-set-requires : tie.Need-unit-set-requires
+unit-set-requires c κs = search needs
+
+-- src/gather.rt:74:9
+rows-of-requires : tie.Need-rows-of-requires
+rows-of-requires c κs =
+    let k = c .before .before .before .before .pre in
+    (c .unit-set .ensures .1, λ i h. units-there _ _ (k .0) (k .1) _ (c .unit-set .ensures .0 ∙ ap (λ (n : ℕ). unitSetAs (setOf n)) (c .before .set-number .ensures .0)) i h)
+
+-- src/gather.rt:75:26
+subtype-of-requires : tie.Need-subtype-of-requires
+subtype-of-requires c κs = search needs
+
+-- src/gather.rt:75:5
+made-requires : tie.Need-made-requires
+made-requires c κs = search needs
+
+-- src/gather.rt:67:1
+returns : tie.Need-returns
+returns c = λ m k.
+    let n = c .before .before .before .before .set-number .ensures .0 in
+    c .made .ensures
+    ∙ ap (λ (x : ℕ). parts x (c .before .subtype-of .result) (c .before .before .rows-of .result)) n
+    ∙ ap (λ (x : ℕ). parts (setNumber (setAt (c .before .before .before .before .before .before .before .args .list .places))) x (c .before .before .rows-of .result)) (c .before .subtype-of .ensures)
+    ∙ list-made _ _ m k _ _ (c .before .before .before .unit-set .ensures .0 ∙ ap (λ (x : ℕ). unitSetAs (setOf x)) n) (c .before .before .rows-of .ensures)
+
+pub from-list-spec : {M : Type 1} → statement M
+from-list-spec =
+    tie.close
+    (tie.spec
+    set-number-requires
+    unit-set-requires
+    rows-of-requires
+    subtype-of-requires
+    made-requires
+    returns)

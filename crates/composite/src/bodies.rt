@@ -1,0 +1,54 @@
+// A composite by value, and its bodies read from and written to areas.
+ghost use mathlib.Core.Path.{_≡_};
+ghost use mathlib.Core.List.{_++_};
+ghost use Prim.Native.Nat.{_+_, _≤_};
+ghost use lib.ListN.{length, take, drop};
+ghost use Rattle.composite.specs.Bodies.{parts};
+
+// Its length number, by which the table of sets tells the units in it; its subtype; their bodies in the composite's order, then zeros.
+pub struct Composite {
+    pub length: usize,
+    pub subtype: u32,
+    pub bodies: [[u8; 8]; 5],
+}
+
+pub fn made(length: usize, subtype: u32, bodies: [[u8; 8]; 5]) -> Composite
+    ensures { λ r. ⌜ r ≡ parts length subtype bodies ⌝ }
+{
+    Composite {
+        length,
+        subtype,
+        bodies,
+    }
+}
+
+pub fn bodies_of(c: Composite) -> [[u8; 8]; 5]
+    ensures { λ r. ⌜ r ≡ c .bodies ⌝ }
+{
+    c.bodies
+}
+
+// The eight bytes at a place.
+pub fn eight(bytes: &[u8], at: usize) -> [u8; 8]
+    requires { ⌜ at + 8 ≤ length (now bytes) ⌝ }
+    ensures { λ r. ⌜ r ≡ take 8 (drop at (now (bytes .entry))) ⌝ }
+{
+    [
+        bytes[at],
+        bytes[at + 1],
+        bytes[at + 2],
+        bytes[at + 3],
+        bytes[at + 4],
+        bytes[at + 5],
+        bytes[at + 6],
+        bytes[at + 7],
+    ]
+}
+
+// One body, at a place of an area.
+pub fn put(body: [u8; 8], at: usize, out: &mut [u8])
+    requires { ⌜ at + 8 ≤ length (now out) ⌝ }
+    ensures { λ _. ⌜ now (out .exit) ≡ take at (now (out .entry)) ++ (body ++ drop (at + 8) (now (out .entry))) ⌝ }
+{
+    bytes::copy(&body, &mut out[at..at + 8]);
+}

@@ -1,0 +1,5 @@
+// Composites: units joined to one, and one split into its units.
+pub mod bodies;
+pub mod gather;
+pub mod join;
+pub mod writer;

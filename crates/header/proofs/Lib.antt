@@ -1,0 +1,7 @@
+-- The laws that carry the definitions of `iscc` to places in the bytes, where the code reads and writes.
+pub mod Cases
+pub mod Nibbles
+pub mod Read
+pub mod Bounds
+pub mod Digits
+pub mod Write

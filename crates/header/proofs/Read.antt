@@ -1,0 +1,137 @@
+-- What the reader's tests say of `readVarnibble` and `readHeader`. Assumes nothing.
+use Prim.Native.Nat.{ℕ, _+_, _-_, _*_, _/_, _%_, _^_, _≤_, _<_}
+use mathlib.Core.Path.{_≡_, refl, sym, _∙_, ap}
+use mathlib.Core.Bool.{Bool, true, false, cond, not, _||_}
+use mathlib.Core.List.{List}
+use native.Mathlib.Omega.{arith}
+use borrow.Author.Tests.{not-true, not-false}
+use lib.ListN.{length, getD, take, drop}
+use lib.Dec.{eqb, ltb, leb, lit≤}
+use Rattle.iscc.specs.Digits.{value}
+use Rattle.iscc.specs.Varnibble.{Parsed, firstOf, rowBy, readVarnibble}
+use Rattle.iscc.specs.Answer.{Answer, accept, refuse, _>>=_, _>>_, _otherwise_}
+use Rattle.iscc.specs.Refusals.{badHeader}
+use Rattle.iscc.specs.Header.{nibbles, readHeader}
+use Rattle.iscc.proofs.Varnibble.{got, read-none, read-ones, read-cut, read-here}
+use Rattle.iscc.proofs.Header.{length-nibbles}
+use Rattle.header.specs.declared.reader.Number.{Number}
+use Rattle.header.specs.declared.rows.Row.{Row}
+use Rattle.header.specs.declared.reader.Numbers.{Numbers}
+use Rattle.header.specs.declared.reader.HeaderRead.{HeaderRead}
+use Rattle.header.specs.declared.reader.HeaderRead.the-variants.{Header, Refused}
+use Rattle.header.specs.Forms.{rowAs, numberAs, NumbersIn, headerReadAs}
+
+abbrev none : Number
+none = record { value = 0; width = 0 }
+
+-- the varnibble at a place, by what the code finds there
+module _ (bs : List ℕ) (at : ℕ) where
+  abbrev found : Number
+  found = numberAs (readVarnibble (drop at (nibbles bs)))
+
+  pub number-none : length bs ≤ at / 2 → none ≡ found
+  number-none l = sym (ap numberAs (read-none (nibbles bs) at (omega (arith, length-nibbles bs))))
+
+  module _ {h : ℕ} (there : at / 2 < length bs) (eh : h ≡ getD (nibbles bs) at 0) where
+    within : at < length (nibbles bs)
+    within = omega (arith, length-nibbles bs)
+
+    pub number-ones : 15 ≤ h → none ≡ found
+    number-ones g = sym (ap numberAs (read-ones (nibbles bs) at within (rw eh at g)))
+
+    module _ (r : Row) (few : h < 15) (er : r ≡ rowAs (rowBy h)) (some : 1 ≤ r .width) where
+      row-width : rowBy (getD (nibbles bs) at 0) ≡ r .width
+      row-width = ap rowBy (sym eh) ∙ ap (λ (x : Row). x .width) (sym er)
+
+      pub number-cut : length bs ≤ (at + r .width - 1) / 2 → none ≡ found
+      number-cut l =
+          sym (ap numberAs (read-cut (nibbles bs) at within (rw eh at few) (rw row-width (omega (arith, length-nibbles bs)))))
+
+      pub number-here : {v : ℕ} → (at + r .width - 1) / 2 < length bs → v ≡ value 4 (take (r .width) (drop at (nibbles bs)))
+          → record { value = r .first + v % r .count; width = r .width } ≡ found
+      number-here {v} l ev =
+          let k : ℕ = r .width in
+          let w : rowBy h ≡ k = ap (λ (x : Row). x .width) (sym er) in
+          let f : r .first ≡ firstOf k = ap (λ (x : Row). x .first) er ∙ ap firstOf w in
+          let c : r .count ≡ 2 ^ (3 * k) = ap (λ (x : Row). x .count) er ∙ ap (λ (j : ℕ). 2 ^ (3 * j)) w in
+          rw (f, c, ev) (sym (ap numberAs (read-here (nibbles bs) at within (rw eh at few) k row-width (omega (arith, length-nibbles bs)))))
+
+-- ---- what a width says of the varnibble read
+
+row-some : (a b c : Bool) → 1 ≤ cond a 1 (cond b 2 (cond c 3 4))
+row-some true b c = lit≤ tt
+row-some false true c = lit≤ tt
+row-some false false true = lit≤ tt
+row-some false false false = lit≤ tt
+
+some-by : (h : ℕ) → 1 ≤ rowBy h
+unfolding rowBy
+some-by h = row-some (ltb h 8) (ltb h 12) (ltb h 14)
+
+only-7 : (a b c : Bool) (g : Parsed ℕ) (n : Number) → 1 ≤ g .used → n .width ≡ 0
+    → n ≡ numberAs (a otherwise badHeader >> (b otherwise badHeader >> (c otherwise badHeader >> accept g)))
+    → (a otherwise badHeader >> (b otherwise badHeader >> (c otherwise badHeader >> accept g))) ≡ refuse badHeader
+only-7 false b c g n l z e = refl
+only-7 true false c g n l z e = refl
+only-7 true true false g n l z e = refl
+only-7 true true true g n l z e = absurd (omega (arith, ap (λ (x : Number). x .width) e))
+
+stopped : (ns : List ℕ) (n : Number) → n ≡ numberAs (readVarnibble ns) → n .width ≡ 0 → readVarnibble ns ≡ refuse badHeader
+unfolding readVarnibble
+stopped ns n e z = only-7 (ltb 0 (length ns)) (ltb (getD ns 0 0) 15) (leb (rowBy (getD ns 0 0)) (length ns)) _ n (some-by (getD ns 0 0)) z e
+
+went : (r : Answer (Parsed ℕ)) (n : Number) → n ≡ numberAs r → (n .width ≡ 0 → ⊥) → r ≡ accept (got (n .value) (n .width))
+went (accept g) n e z = ap (λ (x : Number). accept (got (x .value) (x .width))) (sym e)
+went (refuse q) n e z = absurd (z (ap (λ (x : Number). x .width) e))
+
+-- ---- the header reader's cases
+
+abbrev pub widths : Numbers → ℕ
+widths n = n .«main_type» .width + n .subtype .width + n .version .width + n .length .width
+
+module _ (bs : List ℕ) (n : Numbers) (f : NumbersIn bs n) where
+  abbrev Bad : Type 0
+  Bad = Refused badHeader ≡ headerReadAs (readHeader bs)
+
+  pub bad-first : n .«main_type» .width ≡ 0 → Bad
+  unfolding readHeader
+  bad-first z = rw (stopped _ _ (f .first) z)
+
+  module _ (a : n .«main_type» .width ≡ 0 → ⊥) where
+    first-is : readVarnibble (nibbles bs) ≡ accept (got (n .«main_type» .value) (n .«main_type» .width))
+    first-is = went _ _ (f .first) a
+
+    pub bad-second : n .subtype .width ≡ 0 → Bad
+    unfolding readHeader
+    bad-second z = rw (first-is, stopped _ _ (f .second) z)
+
+    module _ (b : n .subtype .width ≡ 0 → ⊥) where
+      second-is : readVarnibble (drop (n .«main_type» .width) (nibbles bs)) ≡ accept (got (n .subtype .value) (n .subtype .width))
+      second-is = went _ _ (f .second) b
+
+      pub bad-third : n .version .width ≡ 0 → Bad
+      unfolding readHeader
+      bad-third z = rw (first-is, second-is, stopped _ _ (f .third) z)
+
+      module _ (c : n .version .width ≡ 0 → ⊥) where
+        third-is : readVarnibble (drop (n .«main_type» .width + n .subtype .width) (nibbles bs)) ≡ accept (got (n .version .value) (n .version .width))
+        third-is = went _ _ (f .third) c
+
+        pub bad-fourth : n .length .width ≡ 0 → Bad
+        unfolding readHeader
+        bad-fourth z = rw (first-is, second-is, third-is, stopped _ _ (f .fourth) z)
+
+        module _ (d : n .length .width ≡ 0 → ⊥) where
+          fourth-is : readVarnibble (drop (n .«main_type» .width + n .subtype .width + n .version .width) (nibbles bs)) ≡ accept (got (n .length .value) (n .length .width))
+          fourth-is = went _ _ (f .fourth) d
+
+          module _ {p : Bool} (e : p ≡ (eqb (widths n % 2) 0 || eqb (getD (nibbles bs) (widths n) 0) 0)) where
+            pub bad-pad : not p ≡ true → Bad
+            unfolding readHeader
+            bad-pad z = rw (first-is, second-is, third-is, fourth-is, ← e, not-true p z)
+
+            pub header-good : not p ≡ false
+                → Header (record { header = record { «main_type» = n .«main_type» .value; subtype = n .subtype .value; version = n .version .value; length = n .length .value }; used = (widths n + 1) / 2 })
+                ≡ headerReadAs (readHeader bs)
+            unfolding readHeader
+            header-good z = rw (first-is, second-is, third-is, fourth-is, ← e, not-false p z)

@@ -1,0 +1,125 @@
+-- What callers of the reader may count on: the definitions' item behind a unit that was read, and its bounds. Assumes nothing.
+use Prim.Native.Nat.{ℕ, _+_, _-_, _≤_, _<_}
+use mathlib.Core.Path.{_≡_, refl, sym, _∙_, ap, subst}
+use mathlib.Core.Bool.{true}
+use mathlib.Core.List.{List}
+use native.Mathlib.Omega.{arith}
+use borrow.Author.Tests.{leb-true}
+use lib.ListN.{length, take, drop, length-drop}
+use lib.Seq.{length-take-le}
+use lib.Dec.{leb}
+use Rattle.iscc.specs.Answer.{Answer, accept, refuse, _>>=_, _>>_, _otherwise_}
+use Rattle.iscc.specs.Refusals.{Refusal}
+use Rattle.iscc.specs.Varnibble.{Parsed}
+use Rattle.iscc.specs.Header.{Header, readHeader}
+use Rattle.iscc.specs.Permitted.{MainType, number, typeOf, mainTypeOf, permits, bodyBytes}
+use Rattle.iscc.specs.Item.{Item, readItem}
+use Rattle.iscc.specs.Forms.{mainTypeAs}
+use Rattle.iscc.proofs.Answer.{passed, answered, accept-inj}
+use Rattle.iscc.proofs.Permitted.{number-small, named-back, Small, small, body-most}
+use Rattle.header.proofs.Bounds.{HeaderBounds, header-bounds}
+use Rattle.unit.specs.declared.reader.Unit as code
+use Rattle.unit.specs.declared.reader.UnitRead.{UnitRead}
+use Rattle.unit.specs.declared.reader.UnitRead.the-variants as read
+use Rattle.unit.specs.Forms.{unitAs, unitReadAs}
+use Rattle.unit.proofs.Read.{type-number}
+
+-- an item that was read: a header of two bytes, then its body
+pub record ItemBounds (bs : List ℕ) (g : Parsed Item) : Type 0 where
+  pub permitted : permits (g .result .mainType) (g .result .subtype) (g .result .version) (g .result .lengthNo) ≡ true
+  pub size : length (g .result .body) ≡ bodyBytes (g .result .mainType) (g .result .subtype) (g .result .lengthNo)
+  pub front : g .used ≡ 2 + length (g .result .body)
+  pub within : g .used ≤ length bs
+  pub most : g .used ≤ 42
+  pub body : g .result .body ≡ take (length (g .result .body)) (drop 2 bs)
+
+module _ (bs : List ℕ) (h : Parsed Header) (m : MainType) where
+  abbrev size : ℕ
+  size = bodyBytes m (h .result .subtype) (h .result .lengthNo)
+
+  abbrev item : Item
+  item =
+      record {
+        mainType = m;
+        subtype = h .result .subtype;
+        version = h .result .version;
+        lengthNo = h .result .lengthNo;
+        body = take size (drop (h .used) bs);
+      }
+
+  bounds-of : HeaderBounds bs h → number m ≡ h .result .mainType → permits m (h .result .subtype) (h .result .version) (h .result .lengthNo) ≡ true
+      → h .used + size ≤ length bs → ItemBounds bs (record { result = item; used = h .used + size })
+  bounds-of b n p l =
+      let s : Small (h .result .subtype) (h .result .version) (h .result .lengthNo) = small m (h .result .subtype) (h .result .version) (h .result .lengthNo) p in
+      let two : h .used ≡ 2 = b .short (omega (arith, number-small m)) (omega arith) (omega arith) (omega arith) in
+      let len : length (take size (drop (h .used) bs)) ≡ size = length-take-le size (drop (h .used) bs) (simp length-drop (omega arith)) in
+      let short : size ≤ 40 = body-most m (h .result .subtype) (h .result .version) (h .result .lengthNo) p in
+      record { permitted = p; size = len; front = omega arith; within = l; most = omega arith; body = rw (len, two) }
+
+pub item-bounds : (bs : List ℕ) (g : Parsed Item) → readItem bs ≡ accept g → ItemBounds bs g
+unfolding readItem
+item-bounds bs g e =
+    let r = answered (readHeader bs) _ e in
+    let q = answered (mainTypeOf (r .0 .result .mainType)) _ (r .2) in
+    let p = passed (permits (q .0) (r .0 .result .subtype) (r .0 .result .version) (r .0 .result .lengthNo)) _ _ (q .2) in
+    let w = passed (leb (r .0 .used + size bs (r .0) (q .0)) (length bs)) _ _ (p .1) in
+    subst (ItemBounds bs) (accept-inj (w .1))
+    (bounds-of bs (r .0) (q .0) (header-bounds bs (r .0) (r .1)) (named-back (r .0 .result .mainType) (q .0) (q .1)) (p .0)
+    (leb-true (r .0 .used + size bs (r .0) (q .0)) (length bs) (w .0)))
+
+-- the definitions' item behind a unit in the code
+abbrev pub itemFrom : List ℕ → code.Unit → Item
+itemFrom bs u =
+    record {
+      mainType = typeOf (u .«main_type» .number);
+      subtype = u .subtype;
+      version = u .version;
+      lengthNo = u .length;
+      body = take (u .used - u .start) (drop (u .start) bs);
+    }
+
+pub record UnitIs (bs : List ℕ) (u : code.Unit) : Type 0 where
+  pub is : readItem bs ≡ accept (record { result = itemFrom bs u; used = u .used })
+  pub permitted : permits (typeOf (u .«main_type» .number)) (u .subtype) (u .version) (u .length) ≡ true
+  pub named : mainTypeAs (typeOf (u .«main_type» .number)) ≡ u .«main_type»
+  pub mainType : u .«main_type» .number ≤ 6
+  pub start : u .start ≡ 2
+  pub size : u .used ≡ u .start + bodyBytes (typeOf (u .«main_type» .number)) (u .subtype) (u .length)
+  pub within : u .used ≤ length bs
+  pub most : u .used ≤ 42
+
+made : (bs : List ℕ) (g : Parsed Item) → readItem bs ≡ accept g → UnitIs bs (unitAs g)
+made bs g e =
+    let b : ItemBounds bs g = item-bounds bs g e in
+    let n : ℕ = length (g .result .body) in
+    let t : typeOf (number (g .result .mainType)) ≡ g .result .mainType = type-number (g .result .mainType) in
+    let s : g .used - n ≡ 2 = omega (arith, b .front) in
+    let k : g .used - 2 ≡ n = omega (arith, b .front) in
+    record {
+      is = rw (t, s, k, ← b .body) e;
+      permitted = rw t (b .permitted);
+      named = rw t;
+      mainType = number-small (g .result .mainType);
+      start = s;
+      size = rw (t, ← b .size) (omega (arith, b .front));
+      within = b .within;
+      most = b .most;
+    }
+
+-- by the reader's answer r
+module _ (bs : List ℕ) {r : UnitRead} (er : r ≡ unitReadAs (readItem bs)) where
+  pub unit-is : (u : code.Unit) → r ≡ read.Unit u → UnitIs bs u
+  unit-is u e = go (readItem bs) refl
+    where
+      go : (x : Answer (Parsed Item)) → readItem bs ≡ x → UnitIs bs u
+      go (accept g) f =
+          let s : unitAs g ≡ u = cc (ap unitReadAs f) in
+          subst (UnitIs bs) s (made bs g f)
+      go (refuse q) f = let z : _≡_ {A = ℕ} 0 1 = cc (ap unitReadAs f) in absurd (omega arith)
+
+  pub unit-refused : (q : Refusal) → r ≡ read.Refused q → readItem bs ≡ refuse q
+  unit-refused q e = go (readItem bs) refl
+    where
+      go : (x : Answer (Parsed Item)) → readItem bs ≡ x → readItem bs ≡ refuse q
+      go (accept g) f = let z : _≡_ {A = ℕ} 0 1 = cc (ap unitReadAs f) in absurd (omega arith)
+      go (refuse p) f = let s : p ≡ q = cc (ap unitReadAs f) in f ∙ ap refuse s

@@ -1,0 +1,84 @@
+// Document 01, "Permitted headers and body lengths", in one place.
+ghost use mathlib.Core.Path.{_≡_};
+ghost use Prim.Native.Nat.{_≤_, _<_};
+ghost use mathlib.Core.Bool.{_&&_};
+ghost use lib.Dec.{leb};
+ghost use Rattle.iscc.specs.Permitted.{typeOf, compositeSubtype, row, bodyBytes};
+ghost use Rattle.unit.specs.Forms.{permitsAs};
+use iscc::main_type::MainType;
+use iscc::tables;
+
+// Two numbers, each at most its limit.
+fn at_most(subtype: u32, highest: u32, length: u32, longest: u32) -> bool
+    ensures { λ r. ⌜ r ≡ (leb subtype highest && leb length longest) ⌝ }
+{
+    if highest < subtype {
+        return false;
+    }
+    length <= longest
+}
+
+// A composite's subtype: 5 for length 0, 6 for length 4, and otherwise 0 to 4.
+fn composite_subtype(length: u32, subtype: u32) -> bool
+    ensures { λ r. ⌜ r ≡ compositeSubtype length subtype ⌝ }
+{
+    if length == 0 {
+        return subtype == 5;
+    }
+    if length == 4 {
+        return subtype == 6;
+    }
+    subtype <= 4
+}
+
+// The table's rows: subtype and length number of a main type.
+fn in_row(main_type: MainType, subtype: u32, length: u32) -> bool
+    requires { ⌜ «main_type» .number < 7 ⌝ }
+    ensures { λ r. ⌜ r ≡ row (typeOf («main_type» .number)) subtype length ⌝ }
+{
+    if main_type.is(MainType::SEMANTIC) {
+        return at_most(subtype, 4, length, 7);
+    }
+    if main_type.is(MainType::CONTENT) {
+        return at_most(subtype, 4, length, 7);
+    }
+    if main_type.is(MainType::ISCC) {
+        if 7 < length {
+            return false;
+        }
+        return composite_subtype(length, subtype);
+    }
+    if main_type.is(MainType::ID) {
+        return at_most(subtype, 5, length, 4);
+    }
+    at_most(subtype, 0, length, 7)
+}
+
+// Whether the table permits a header. Version is always 0.
+pub fn permits(main_type: MainType, subtype: u32, version: u32, length: u32) -> bool
+    ensures { λ r. ⌜ r ≡ permitsAs «main_type» subtype version length ⌝ }
+{
+    if 7 <= main_type.number() {
+        return false;
+    }
+    if version != 0 {
+        return false;
+    }
+    in_row(main_type, subtype, length)
+}
+
+// The bytes of a body, by the same columns.
+pub fn body_bytes(main_type: MainType, subtype: u32, length: u32) -> usize
+    requires { ⌜ («main_type» .number < 7) × (length ≤ 7) ⌝ }
+    ensures { λ r. ⌜ (r ≡ bodyBytes (typeOf («main_type» .number)) subtype length) × (r ≤ 40) ⌝ }
+{
+    let n = length as usize;
+    if main_type.is(MainType::ISCC) {
+        let set = tables::unit_set(n);
+        return set.count * 8;
+    }
+    if main_type.is(MainType::ID) {
+        return 8 + n;
+    }
+    (n + 1) * 4
+}

@@ -1,0 +1,69 @@
+// Reads one unit or composite at the front of bytes.
+ghost use mathlib.Core.Path.{_≡_};
+ghost use Rattle.iscc.specs.Header.{readHeader};
+ghost use Rattle.iscc.specs.Item.{readItem};
+ghost use Rattle.header.specs.Forms.{headerReadAs};
+ghost use Rattle.header.specs.declared.reader.HeaderRead.the-variants.{Header};
+ghost use Rattle.unit.specs.Forms.{unitReadAs};
+use crate::permitted;
+use header::reader::HeaderRead;
+use header::reader::RawHeader;
+use iscc::main_type::MainType;
+use iscc::main_type::Named;
+use iscc::refusal::Refusal;
+
+// An item that was read. Its body is the bytes from `start` to `used`.
+pub struct Unit {
+    pub main_type: MainType,
+    pub subtype: u32,
+    pub version: u32,
+    pub length: u32,
+    pub start: usize,
+    pub used: usize,
+}
+
+pub enum UnitRead {
+    Unit(Unit),
+    Refused(Refusal),
+}
+
+// The item of a header that stands at the front of the bytes: 8, then 9.
+fn item_of(bytes: &[u8], raw: RawHeader) -> UnitRead
+    requires { ⌜ headerReadAs (readHeader (now bytes)) ≡ Header raw ⌝ }
+    ensures { λ r. ⌜ r ≡ unitReadAs (readItem (now (bytes .entry))) ⌝ }
+{
+    let h = raw.header;
+    let named = MainType::from_number(h.main_type);
+    match named {
+        Named::Refused(q) => UnitRead::Refused(q),
+        Named::MainType(m) => {
+            if !permitted::permits(m, h.subtype, h.version, h.length) {
+                return UnitRead::Refused(Refusal::NOT_PERMITTED);
+            }
+            let start = raw.used;
+            let used = start + permitted::body_bytes(m, h.subtype, h.length);
+            if bytes.len() < used {
+                return UnitRead::Refused(Refusal::SHORT_BODY);
+            }
+            UnitRead::Unit(Unit {
+                main_type: m,
+                subtype: h.subtype,
+                version: h.version,
+                length: h.length,
+                start,
+                used,
+            })
+        }
+    }
+}
+
+// One unit or composite at the front of the bytes: 7, 8, 9. What follows is not its concern.
+pub fn read(bytes: &[u8]) -> UnitRead
+    ensures { λ r. ⌜ r ≡ unitReadAs (readItem (now (bytes .entry))) ⌝ }
+{
+    let answer = header::reader::read(bytes);
+    match answer {
+        HeaderRead::Header(raw) => item_of(bytes, raw),
+        HeaderRead::Refused(q) => UnitRead::Refused(q),
+    }
+}
