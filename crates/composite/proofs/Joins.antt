@@ -138,7 +138,7 @@ unfolding joinedBytes
 join-refused bs q e = rw e
 
 -- a list has one item, or more
-one-or-more : (bs : List ℕ) (is : List Item) (P : List Item → Type 0) → readItems bs ≡ accept is → ((i : Item) → is ≡ i ∷ [] → P (i ∷ [])) → ((i j : Item) (js : List Item) → is ≡ i ∷ j ∷ js → P (i ∷ j ∷ js)) → P is
+pub one-or-more : (bs : List ℕ) (is : List Item) (P : List Item → Type 0) → readItems bs ≡ accept is → ((i : Item) → is ≡ i ∷ [] → P (i ∷ [])) → ((i j : Item) (js : List Item) → is ≡ i ∷ j ∷ js → P (i ∷ j ∷ js)) → P is
 unfolding readItems
 one-or-more bs [] P e f g = absurd (never-none (suc (length bs)) bs e)
 one-or-more bs (i ∷ []) P e f g = f i refl

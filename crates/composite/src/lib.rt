@@ -1,5 +1,6 @@
 // Composites: units joined to one, and one split into its units.
 pub mod bodies;
+pub mod code;
 pub mod gather;
 pub mod join;
 pub mod writer;
