@@ -1,11 +1,10 @@
 -- The doors by the bytes of the code: what intake writes, and what the strict door compares. Assumes nothing.
-use Prim.Native.Nat.{ℕ, _+_, _-_, _≤_, _<_}
+use Prim.Native.Nat.{ℕ, _-_, _≤_, _<_}
 use mathlib.Core.Path.{_≡_, refl, sym, _∙_, ap, subst}
 use mathlib.Core.Bool.{Bool, true, false, cond}
 use mathlib.Core.List.{List}
 use native.Mathlib.Omega.{arith}
-use lib.ListN.{length, take, drop, length-append}
-use lib.Seq.{take-at}
+use lib.ListN.{length, take}
 use borrow.Author.Tests.{le-leb, lt-leb}
 use Rattle.iscc.specs.Refusals.{Refusal, areaTooShort, otherText}
 use Rattle.iscc.specs.Answer.{Answer, accept, refuse, _>>=_, _>>_, _otherwise_, areaAfter}
@@ -17,12 +16,14 @@ use Rattle.iscc.proofs.Item.{item-most}
 use Rattle.iscc.proofs.Meaning.{item-permitted}
 use Rattle.iscc.proofs.Doors.{meant}
 use Rattle.door.specs.Codes.{textOfCode, codeBytes}
-use Rattle.door.specs.Forms.{toldAs, checkedAs}
+use Rattle.composite.specs.Canonical.{codedAs}
+use Rattle.door.specs.Forms.{checkedAs}
 use Rattle.iscc.specs.Forms.{writtenAs}
 use Rattle.iscc.specs.declared.written.Written.{Written}
 use Rattle.iscc.specs.declared.written.Written.the-variants as written
-use Rattle.door.specs.declared.told.Told.{Told}
-use Rattle.door.specs.declared.told.Told.the-variants as told
+use Rattle.composite.specs.declared.code.Coded.{Coded}
+use Rattle.composite.specs.declared.code.Coded.the-variants as coded
+use Rattle.door.proofs.Codes.{written-front, coded-bytes, coded-count, coded-refused}
 use Rattle.door.specs.declared.strict.Checked.{Checked}
 use Rattle.door.specs.declared.strict.Checked.the-variants.{Accepted, Refused}
 
@@ -72,20 +73,6 @@ strict-is t area l = rw (le-leb 73 area l) (go (meaningOfText t))
 
 -- ---- the code that the inner function hands over, in an area a of which z was lent
 
-told-code : (x : Answer (List ℕ)) (k n : ℕ) (a z : List ℕ) → told.Length n ≡ toldAs k x → a ≡ areaAfter x z → x ≡ accept (take (n - 0) a)
-told-code (accept bs) k n a z e f =
-    let q : n ≡ length bs = cc in
-    let m : n - 0 ≡ length bs = omega arith in
-    ap accept (sym (ap (λ (j : ℕ). take j a) m ∙ ap (take (length bs)) f ∙ take-at bs (drop (length bs) z) (length bs) refl))
-told-code (refuse q) k n a z e f = let o : _≡_ {A = ℕ} 0 1 = cc in absurd (omega arith)
-
-told-count : (x : Answer (List ℕ)) (k n : ℕ) (bs : List ℕ) → told.Length n ≡ toldAs k x → x ≡ accept bs → n ≡ length bs
-told-count x k n bs e f = let g : told.Length n ≡ told.Length (length bs) = e ∙ ap (toldAs k) f in cc
-
-told-refused : (x : Answer (List ℕ)) (k p : ℕ) (q : Refusal) → told.Refused q p ≡ toldAs k x → x ≡ refuse q
-told-refused (accept bs) k p q e = let o : _≡_ {A = ℕ} 0 1 = cc in absurd (omega arith)
-told-refused (refuse r) k p q e = let f : q ≡ r = cc in ap refuse (sym f)
-
 -- what the contract of intake says of the answer w and the area e, once d was lent
 abbrev pub Taken : List ℕ → List ℕ → Written → List ℕ → Type 0
 Taken t d w e = (w ≡ writtenAs (intake t (length d))) × (e ≡ areaAfter (intake t (length d)) d)
@@ -96,20 +83,20 @@ taken t d e w x i f g = rw i (f, g)
 pub taken-short : (t d : List ℕ) → length d < 73 → Taken t d (written.Refused areaTooShort) d
 taken-short t d l = taken t d d _ (refuse areaTooShort) (intake-short t (length d) l) refl refl
 
-module _ (t : List ℕ) (k : ℕ) (r : Told) (answer : r ≡ toldAs k (codeBytes t)) where
-  pub taken-refused : (d : List ℕ) (q : Refusal) (p : ℕ) → 73 ≤ length d → r ≡ told.Refused q p → Taken t d (written.Refused q) d
+module _ (t : List ℕ) (k : ℕ) (r : Coded) (answer : r ≡ codedAs k (codeBytes t)) where
+  pub taken-refused : (d : List ℕ) (q : Refusal) (p : ℕ) → 73 ≤ length d → r ≡ coded.Refused q p → Taken t d (written.Refused q) d
   taken-refused d q p room e =
-      let c : codeBytes t ≡ refuse q = told-refused (codeBytes t) k p q (sym e ∙ answer) in
+      let c : codeBytes t ≡ refuse q = coded-refused (codeBytes t) k p q (sym e ∙ answer) .0 in
       taken t d d _ (refuse q) (intake-is t (length d) room ∙ ap texted c) refl refl
 
-  module _ (n : ℕ) (a z : List ℕ) (counted : r ≡ told.Length n) (after : a ≡ areaAfter (codeBytes t) z) where
+  module _ (n : ℕ) (a z : List ℕ) (counted : r ≡ coded.Length n) (after : a ≡ areaAfter (codeBytes t) z) where
     code-is : codeBytes t ≡ accept (take (n - 0) a)
-    code-is = told-code (codeBytes t) k n a z (sym counted ∙ answer) after
+    code-is = coded-bytes (codeBytes t) k n a z (sym counted ∙ answer) after .0
 
     pub code-fits : (n ≤ 42) × (length (take (n - 0) a) ≤ 42)
     code-fits =
         let m = code-most t (take (n - 0) a) code-is in
-        let q = told-count (codeBytes t) k n (take (n - 0) a) (sym counted ∙ answer) code-is in
+        let q = coded-count (codeBytes t) k n (take (n - 0) a) (sym counted ∙ answer) code-is in
         (omega arith, m)
 
     pub taken-written : (d e : List ℕ) (l : ℕ) → 73 ≤ length d → l ≡ length (textOfCode (take (n - 0) a)) → e ≡ areaAfter (accept (textOfCode (take (n - 0) a))) d → Taken t d (written.Length l) e
@@ -119,11 +106,7 @@ module _ (t : List ℕ) (k : ℕ) (r : Told) (answer : r ≡ toldAs k (codeBytes
 -- ---- the text that intake would write, in an area a of which z was lent
 
 written-text : (x : Answer (List ℕ)) (n : ℕ) (a z : List ℕ) → written.Length n ≡ writtenAs x → a ≡ areaAfter x z → (x ≡ accept (take (n - 0) a)) × (n ≤ length a)
-written-text (accept out) n a z e f =
-    let q : n ≡ length out = cc in
-    let m : n - 0 ≡ length out = omega arith in
-    let l : length a ≡ length out + length (drop (length out) z) = ap length f ∙ length-append out (drop (length out) z) in
-    (ap accept (sym (ap (λ (j : ℕ). take j a) m ∙ ap (take (length out)) f ∙ take-at out (drop (length out) z) (length out) refl)), omega arith)
+written-text (accept out) n a z e f = let w = written-front out a z n (cc) f in (ap accept (w .0), w .1)
 written-text (refuse q) n a z e f = let o : _≡_ {A = ℕ} 0 1 = cc in absurd (omega arith)
 
 written-refused : (x : Answer (List ℕ)) (q : Refusal) → written.Refused q ≡ writtenAs x → x ≡ refuse q

@@ -6,4 +6,5 @@ pub mod Runs
 pub mod Copied
 pub mod Texts
 pub mod Payloads
+pub mod Codes
 pub mod Doors

@@ -21,10 +21,10 @@ use Rattle.iscc.proofs.Doors.{run-of}
 use Rattle.door.specs.Places.{placeOf}
 use Rattle.door.specs.Runs.{runAs}
 use Rattle.door.specs.Payloads.{firstBad, badPlace, payloadPlace}
-use Rattle.door.specs.Forms.{toldAs}
+use Rattle.composite.specs.Canonical.{codedAs}
 use Rattle.door.specs.declared.run.Run.{Run}
-use Rattle.door.specs.declared.told.Told.{Told}
-use Rattle.door.specs.declared.told.Told.the-variants.{Length, Refused}
+use Rattle.composite.specs.declared.code.Coded.{Coded}
+use Rattle.composite.specs.declared.code.Coded.the-variants.{Length, Refused}
 use Rattle.door.proofs.Runs.{padded-front, length-padded}
 
 -- ---- the first bad character
@@ -58,11 +58,11 @@ decoded-most cs bs area l m e =
     let n : length bs ≡ 5 * length cs / 8 = encode-decode base32 sound32 cs bs e .count in
     omega arith
 
-as-accepted : (k : ℕ) (r : Answer (List ℕ)) (n : ℕ) → written.Length n ≡ writtenAs r → Length n ≡ toldAs k r
+as-accepted : (k : ℕ) (r : Answer (List ℕ)) (n : ℕ) → written.Length n ≡ writtenAs r → Length n ≡ codedAs k r
 as-accepted k (accept bs) n e = let q : n ≡ length bs = cc in ap Length q
 as-accepted k (refuse p) n e = let z : _≡_ {A = ℕ} 0 1 = cc in absurd (omega arith)
 
-as-refused : (k : ℕ) (r : Answer (List ℕ)) (q : Refusal) → written.Refused q ≡ writtenAs r → Refused q k ≡ toldAs k r
+as-refused : (k : ℕ) (r : Answer (List ℕ)) (q : Refusal) → written.Refused q ≡ writtenAs r → Refused q k ≡ codedAs k r
 as-refused k (accept bs) q e = let z : _≡_ {A = ℕ} 0 1 = cc in absurd (omega arith)
 as-refused k (refuse p) q e = let f : q ≡ p = cc in ap (λ (q : Refusal). Refused q k) f
 
@@ -72,8 +72,8 @@ ne-pos (suc n) h = omega arith
 
 -- ---- what the contract says of the answer r and the area e, once d was lent
 
-abbrev pub Outcome : List ℕ → List ℕ → Told → List ℕ → Type 0
-Outcome t d r e = (r ≡ toldAs (payloadPlace t) (payload t)) × (e ≡ areaAfter (payload t) d)
+abbrev pub Outcome : List ℕ → List ℕ → Coded → List ℕ → Type 0
+Outcome t d r e = (r ≡ codedAs (payloadPlace t) (payload t)) × (e ≡ areaAfter (payload t) d)
 
 refused : (t d : List ℕ) (q : Refusal) → payload t ≡ refuse q → payloadPlace t ≡ 0 → Outcome t d (Refused q 0) d
 refused t d q e z = rw (e, z) (refl, refl)

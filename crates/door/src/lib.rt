@@ -1,9 +1,10 @@
 // The text doors: typed text is cleaned, read as one code and written as its one text.
-pub mod payload;
-pub mod run;
-pub mod scheme;
-pub mod span;
+mod code;
+pub mod intake;
+mod payload;
+mod run;
+mod scheme;
+mod span;
 pub mod strict;
-pub mod text;
-pub mod told;
-pub mod trim;
+mod text;
+mod trim;

@@ -5,9 +5,9 @@ ghost use lib.ListN.{length};
 ghost use Rattle.iscc.specs.Answer.{areaAfter};
 ghost use Rattle.iscc.specs.Doors.{cleaned, payload};
 ghost use Rattle.door.specs.Payloads.{badPlace, payloadPlace};
-ghost use Rattle.door.specs.Forms.{toldAs};
+ghost use Rattle.composite.specs.Canonical.{codedAs};
 use crate::run;
-use crate::told::Told;
+use composite::code::Coded;
 use iscc::refusal::Refusal;
 use iscc::written::Written;
 
@@ -27,25 +27,25 @@ fn bad_place(text: &[u8], chars: &[u8]) -> usize
 }
 
 // Writes the bytes of the run to the front of an area that has room for 50. Gives 2, 1, 3, 4, 5, 6 in this order.
-pub fn read(text: &[u8], out: &mut [u8]) -> Told
+pub fn read(text: &[u8], out: &mut [u8]) -> Coded
     requires { ⌜ 50 ≤ length (now out) ⌝ }
-    ensures answer { λ r. ⌜ r ≡ toldAs (payloadPlace (now (text .entry))) (payload (now (text .entry))) ⌝ }
+    ensures answer { λ r. ⌜ r ≡ codedAs (payloadPlace (now (text .entry))) (payload (now (text .entry))) ⌝ }
     ensures area { λ _. ⌜ now (out .exit) ≡ areaAfter (payload (now (text .entry))) (now (out .entry)) ⌝ }
 {
     if LONGEST < text.len() {
-        return Told::Refused(Refusal::LONG_TEXT, 0);
+        return Coded::Refused(Refusal::LONG_TEXT, 0);
     }
     let run = run::clean(text);
     let count = run.count;
     if count == 0 {
-        return Told::Refused(Refusal::EMPTY_TEXT, 0);
+        return Coded::Refused(Refusal::EMPTY_TEXT, 0);
     }
     if run::MOST < count {
-        return Told::Refused(Refusal::LONG_RUN, 0);
+        return Coded::Refused(Refusal::LONG_RUN, 0);
     }
     let chars = run.chars;
     match base32::reader::read(&chars[0..count], out) {
-        Written::Length(n) => Told::Length(n),
-        Written::Refused(q) => Told::Refused(q, bad_place(text, &chars[0..count])),
+        Written::Length(n) => Coded::Length(n),
+        Written::Refused(q) => Coded::Refused(q, bad_place(text, &chars[0..count])),
     }
 }
