@@ -1,0 +1,6 @@
+-- What the doors' inner functions answer. Assumes nothing.
+pub mod Places
+pub mod Runs
+pub mod Codes
+pub mod Forms
+pub mod Payloads
