@@ -1,13 +1,13 @@
 -- What reading a text comes to, by the tests in their order, as a reader finds them. Assumes nothing.
 use Prim.Native.Nat.{ℕ, _/_, _%_, _^_, _≤_, _<_}
-use mathlib.Core.Path.{_≡_, refl, sym}
+use mathlib.Core.Path.{_≡_, refl}
 use mathlib.Core.Bool.{Bool, true, false}
 use mathlib.Core.List.{List, map}
 use lib.ListN.{length, length-map}
 use lib.Dec.{ltb, eqb}
 use borrow.Author.Tests.{eq-eqb, ne-eqb}
 use Rattle.iscc.specs.Refusals.{badCharacter, badCount, spareBits}
-use Rattle.iscc.specs.Answer.{Answer, accept, refuse, _>>_, _otherwise_}
+use Rattle.iscc.specs.Answer.{accept, refuse, _>>_, _otherwise_}
 use Rattle.iscc.specs.Digits.{digits, value, allBelow, byteCount, spareCount, fromDigits}
 use Rattle.iscc.specs.Alphabet.{Alphabet, digitIn, isDigit, decode}
 use Rattle.iscc.specs.Lists.{firstNot}

@@ -3,13 +3,13 @@
 use Prim.Native.Nat.{ℕ, zero, suc, _+_, _-_, _*_, _/_, _%_, _^_, _≤_, _<_}
 use mathlib.Core.Path.{_≡_, refl, sym, _∙_, ap, ap₂}
 use mathlib.Core.List.{List, [], _∷_, _++_, map, map-append, append-nil, append-assoc}
-use native.Mathlib.Nat.{mod-eq-of-lt, mul-assoc, add-mul, mul-add, mul-comm, add-comm, mul-add-div-right, mul-add-mod-self-right, le-of-suc-le-suc, mul-suc, mul-one, mul-zero, div-one, lt-of-lt-of-le, add-zero, add-assoc}
+use native.Mathlib.Nat.{mod-eq-of-lt, mul-assoc, add-mul, mul-add, mul-comm, mul-add-div-right, mul-add-mod-self-right, le-of-suc-le-suc, mul-suc, mul-one, mul-zero, div-one, lt-of-lt-of-le, add-zero, add-assoc}
 use native.Mathlib.Numerals.{add-one}
 use native.Mathlib.Omega.{arith}
 use lib.ListN.{length, take, drop, getD, set, length-append, length-map, length-drop}
 use lib.Seq.{take-suc, take-add, take-all, length-take-le}
 use lib.Arith.{digits-div, digits-lt}
-use lib.Pow.{pow-pos, pow-mono, pow-add, high, low, shl-lt, shr-lt, shl-shr, shr-shr}
+use lib.Pow.{pow-pos, pow-mono, pow-add, high, low, shl-lt, shr-lt, shr-shr}
 use Rattle.iscc.specs.Digits.{digits, value, Below, digitCount, toDigits, byteCount, spareCount}
 use Rattle.iscc.specs.Alphabet.{Alphabet, charIn, encode}
 use Rattle.iscc.proofs.Digits.{length-digits, digits-below, value-digits, value-inj, value-lt, value-append, value-snoc, digits-append, digits-snoc, below-take, below-drop}

@@ -1,19 +1,17 @@
 -- A lent area in which a list is placed, and how a call that fills it ends. Assumes nothing.
-use Prim.Native.Nat.{ℕ, zero, suc, _+_, _-_, _≤_, _<_}
+use Prim.Native.Nat.{ℕ, _+_, _≤_, _<_}
 use mathlib.Core.Path.{_≡_, refl, sym, _∙_, ap}
-use mathlib.Core.Bool.{true, false}
-use mathlib.Core.List.{List, [], _∷_, _++_, append-assoc, append-nil}
+use mathlib.Core.List.{List, [], _++_, append-assoc, append-nil}
 use native.Mathlib.Omega.{arith}
 use lib.ListN.{length, take, drop, length-append, take-append-drop}
 use lib.Seq.{length-take-le, take-at, drop-at, drop-drop}
-use lib.Dec.{leb}
 use borrow.Author.Tests.{le-leb, lt-leb}
 use Rattle.iscc.specs.Refusals.{Refusal, areaTooShort}
 use Rattle.iscc.specs.Answer.{Answer, accept, refuse, into, areaAfter}
 use Rattle.iscc.specs.Forms.{writtenAs}
 use Rattle.iscc.specs.declared.written.Written as code
 use Rattle.iscc.specs.declared.written.Written.the-variants.{Length, Refused}
-use Rattle.iscc.proofs.Area.{Written, all-written, length-written}
+use Rattle.iscc.proofs.Area.{Written, all-written}
 
 -- the area with q in place of what stood from j on
 abbrev pub placed : List ℕ → ℕ → ℕ → List ℕ → List ℕ

@@ -1,19 +1,14 @@
--- Two functions that antt computes to be the same from a number on agree there. Assumes nothing.
-use mathlib.Core.Path.{_≡_, sym, ap, _∙_}
-use mathlib.Core.List.{List, [], _∷_}
-use Prim.Native.Nat.{ℕ, zero, suc, _+_, _-_, _≤_, _<_}
+-- Two functions that antt computes to be the same on a range agree there. Assumes nothing.
+use Prim.Native.Nat.{ℕ, _+_, _-_, _≤_, _<_}
+use mathlib.Core.Path.{_≡_}
+use mathlib.Core.Bool.{true}
 use native.Mathlib.Omega.{arith}
-use native.Mathlib.Nat.{add-zero, add-suc, suc-add, le-of-suc-le-suc, not-suc-le-zero}
-use lib.ListN.{getD}
-use Rattle.iscc.proofs.Table.{table}
+use lib.Dec.{eqb}
+use borrow.Author.Tests.{eqb-true}
+use Rattle.iscc.proofs.Table.{upTo, at}
 
-from : (f : ℕ → ℕ) (k n i : ℕ) → i < n → getD (table f 0 k n) i 0 ≡ f (k + i)
-from f k zero i h = absurd (not-suc-le-zero h)
-from f k (suc n) zero h = ap f (sym (add-zero k))
-from f k (suc n) (suc i) h = from f (suc k) n i (le-of-suc-le-suc h) ∙ ap f (suc-add k i ∙ sym (add-suc k i))
-
-pub agree : (f g : ℕ → ℕ) (k n : ℕ) → table f 0 k n ≡ table g 0 k n → (i : ℕ) → k ≤ i → i < k + n → f i ≡ g i
-agree f g k n e i low high =
+pub agree : (f g : ℕ → ℕ) (k n : ℕ) → upTo n (λ j. eqb (f (k + j)) (g (k + j))) ≡ true → (i : ℕ) → k ≤ i → i < k + n → f i ≡ g i
+agree f g k n t i low high =
     let j : ℕ = i - k in
-    let at : i ≡ k + j = omega arith in
-    ap f at ∙ sym (from f k n j (omega arith)) ∙ ap (λ (l : List ℕ). getD l j 0) e ∙ from g k n j (omega arith) ∙ ap g (sym at)
+    let e : k + j ≡ i = omega arith in
+    rw e at (eqb-true (f (k + j)) (g (k + j)) (at n (λ j. eqb (f (k + j)) (g (k + j))) t j (omega arith)))

@@ -1,6 +1,5 @@
 -- `all_digits` meets its contract. The loop's invariant: `most` is the largest digit of the first i characters. Assumes nothing.
 use Prim.Native.Nat.{_-_}
-use mathlib.Core.Path.{sym, _∙_}
 use mathlib.Core.Logic.{⊎-elim}
 use native.Mathlib.Omega.{arith}
 use lib.ListN.{length}

@@ -1,15 +1,15 @@
 -- `fill` meets its contract. The loop's invariant: the first i characters are written, as o bytes. Assumes nothing.
-use Prim.Native.Nat.{ℕ, _-_, _+_, _*_, _/_, _%_, _≤_, _<_, _^_}
-use mathlib.Core.Path.{_≡_, refl, sym, ap, _∙_}
-use mathlib.Core.List.{List, _++_, map}
+use Prim.Native.Nat.{ℕ, _-_, _+_, _*_, _/_, _%_, _≤_, _^_}
+use mathlib.Core.Path.{_≡_, refl}
+use mathlib.Core.List.{List, map}
 use native.Mathlib.Omega.{arith}
-use lib.ListN.{length, drop, length-map}
+use lib.ListN.{length, length-map}
 use borrow.Author.Needs.{needs}
 use Rattle.iscc.specs.Digits.{digits, value, byteCount, spareCount}
 use Rattle.iscc.specs.Alphabet.{digitIn}
 use Rattle.iscc.specs.Base32.{base32}
 use Rattle.iscc.proofs.Area.{Written, length-written}
-use Rattle.iscc.proofs.Groups.{Decoded, decoded-none, decoded-group, decoded-rest, byteCount-join}
+use Rattle.iscc.proofs.Groups.{Decoded, decoded-none, decoded-group, decoded-rest}
 use Rattle.base32.proofs.reader.fill.Statement.{statement}
 use Rattle.base32.proofs.reader.fill.Tie as tie
 

@@ -1,9 +1,8 @@
 -- `put` meets its contract. The loop's invariant: the first i bytes stand there. Assumes nothing.
-use Prim.Native.Nat.{ℕ, _-_, _+_, _*_, _≤_, _<_, _^_}
-use mathlib.Core.Path.{_≡_, refl, sym, _∙_}
+use Prim.Native.Nat.{_-_, _*_}
+use mathlib.Core.Path.{_≡_, _∙_}
 use mathlib.Core.List.{map-id}
 use native.Mathlib.Omega.{arith}
-use lib.ListN.{length, drop, length-drop}
 use borrow.Author.Needs.{needs}
 use Rattle.iscc.proofs.Area.{length-written}
 use Rattle.iscc.proofs.Groups.{Put, put-none, put-one, put-all}

@@ -1,7 +1,7 @@
 -- `read` meets its contract: at each return the tests settle what reading comes to. Assumes nothing.
 use Prim.Native.Nat.{_≤_}
-use mathlib.Core.Path.{_≡_, refl, sym, ap, _∙_}
-use mathlib.Core.Bool.{true, false}
+use mathlib.Core.Path.{_≡_, refl, sym, _∙_}
+use mathlib.Core.Bool.{true}
 use native.Mathlib.Omega.{arith}
 use borrow.Author.Needs.{needs}
 use borrow.Author.Tests.{not-true, not-false}
@@ -15,7 +15,7 @@ use Rattle.iscc.specs.Lists.{firstNot}
 use Rattle.iscc.proofs.Area.{Written, length-written}
 use Rattle.iscc.proofs.FirstNot.{all-digits}
 use Rattle.iscc.proofs.Lent.{refused, too-short, filled}
-use Rattle.iscc.proofs.Decoding.{spareOf, bytesOf, length-bytes, refused-4, refused-5, refused-6, accepted}
+use Rattle.iscc.proofs.Decoding.{bytesOf, length-bytes, refused-4, refused-5, refused-6, accepted}
 use Rattle.base32.proofs.reader.read.Statement.{statement}
 use Rattle.base32.proofs.reader.read.Tie as tie
 

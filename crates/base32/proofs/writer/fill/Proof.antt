@@ -1,10 +1,9 @@
 -- `fill` meets its contract. The loop's invariant: the first i bytes are written, as o characters. Assumes nothing.
-use Prim.Native.Nat.{ℕ, _-_, _+_, _*_, _/_, _≤_, _<_, _^_}
-use mathlib.Core.Path.{_≡_, refl, sym, ap, _∙_}
-use mathlib.Core.List.{List, _++_}
+use Prim.Native.Nat.{ℕ, _-_, _+_, _*_, _/_, _≤_, _<_}
+use mathlib.Core.Path.{_≡_, refl, _∙_}
 use native.Mathlib.Omega.{arith}
 use lib.Dec.{lit<}
-use lib.ListN.{length, drop}
+use lib.ListN.{length}
 use lib.Pow.{shl-exact}
 use borrow.Author.Needs.{needs}
 use Rattle.iscc.specs.Digits.{Below, digitCount}

@@ -1,8 +1,8 @@
 -- `load` meets its contract. The loop's invariant: the number is that of the first i bytes. Assumes nothing.
-use Prim.Native.Nat.{ℕ, _-_, _+_, _*_, _≤_, _<_, _^_}
+use Prim.Native.Nat.{_-_, _≤_}
 use mathlib.Core.Path.{_≡_, sym, _∙_}
 use native.Mathlib.Omega.{arith}
-use lib.ListN.{length, drop, length-drop}
+use lib.ListN.{drop, length-drop}
 use lib.Seq.{getD-drop}
 use borrow.Author.Needs.{needs}
 use Rattle.iscc.proofs.Groups.{Loaded, loaded-none, loaded-one, loaded-small}

@@ -1,8 +1,7 @@
 -- `put` meets its contract. The loop's invariant: the characters of the first i digits stand there. Assumes nothing.
-use Prim.Native.Nat.{ℕ, _-_, _+_, _*_, _≤_, _<_, _^_}
-use mathlib.Core.Path.{_≡_, sym, _∙_}
+use Prim.Native.Nat.{_-_, _*_}
+use mathlib.Core.Path.{_≡_}
 use native.Mathlib.Omega.{arith}
-use lib.ListN.{length, drop, length-drop}
 use borrow.Author.Needs.{needs}
 use Rattle.iscc.specs.Alphabet.{charIn}
 use Rattle.iscc.specs.Base32.{base32}
