@@ -1,2 +1,3 @@
 // The C entries of the standby console: include/iscc.h declares them.
 pub mod distances;
+pub mod doors;

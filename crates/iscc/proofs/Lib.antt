@@ -24,6 +24,7 @@ pub mod Tests
 pub mod CallTests
 pub mod Exactly
 pub mod Demands
+pub mod Forms
 pub mod Labels
 pub mod Values
 pub mod FirstNot

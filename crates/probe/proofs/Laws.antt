@@ -26,9 +26,6 @@ use Rattle.unit.specs.Forms as units
 use Rattle.probe.specs.declared.headers.Fields.{Fields}
 use Rattle.probe.specs.Forms.{headerOf, noFields, headerFields, unitFields}
 
-pub outcome-is : (w v : Written) (o : Outcome) → w ≡ v → o ≡ outcomeAs w → o ≡ outcomeAs v
-outcome-is w v o e f = f ∙ ap outcomeAs e
-
 pub header-there : (r s : HeaderRead) (h : RawHeader) → r ≡ s → r ≡ header.Header h → headerFields (header.Header h) ≡ headerFields s
 header-there r s h e f = ap headerFields (sym f ∙ e)
 

@@ -1,0 +1,2 @@
+-- The doors' answers as C has them.
+pub mod Laws
