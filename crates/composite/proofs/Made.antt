@@ -146,11 +146,11 @@ place-at bs is m at e p = go (bodyIn m is) p (λ body. eight-in m is body e)
         let l : length body ≡ 8 = f body refl in
         (omega (arith, p .1), ap (λ (k : ℕ). take k (drop at bs)) (sym l) ∙ p .2)
 
-abbrev All : (MainType → Type 0) → List MainType → Type 0
+abbrev pub All : (MainType → Type 0) → List MainType → Type 0
 All P [] = Unit {0}
 All P (m ∷ ms) = P m × All P ms
 
-all-at : (P : MainType → Type 0) (n : ℕ) (ms : List MainType) (i : ℕ) (d : MainType) → All P (take n ms) → i < n → n ≤ length ms → P (getD ms i d)
+pub all-at : (P : MainType → Type 0) (n : ℕ) (ms : List MainType) (i : ℕ) (d : MainType) → All P (take n ms) → i < n → n ≤ length ms → P (getD ms i d)
 all-at P zero ms i d a h l = absurd (not-suc-le-zero h)
 all-at P (suc n) [] i d a h l = absurd (not-suc-le-zero l)
 all-at P (suc n) (m ∷ ms) zero d a h l = a .0
@@ -215,7 +215,7 @@ module _ (l : Summary) (r : Bool) (e : r ≡ anySubtyped (l .places)) where
   subtype-6 t z = rw (← e, t, ne-eqb (getD (l .places) 0 0) 0 z)
 
 -- a set's units fit the table
-five : (a b c : Bool) → unitCount (record { meta = a; semantic = b; content = c }) ≤ length (unitSetAs (record { meta = a; semantic = b; content = c }) .units)
+pub five : (a b c : Bool) → unitCount (record { meta = a; semantic = b; content = c }) ≤ length (unitSetAs (record { meta = a; semantic = b; content = c }) .units)
 unfolding unitSetAs unitTypes
 five true true true = lit≤ tt
 five true true false = lit≤ tt
