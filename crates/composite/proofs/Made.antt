@@ -1,16 +1,16 @@
 -- The composite that a list makes, from the numbers of its summary. Assumes nothing.
-use Prim.Native.Nat.{ℕ, zero, suc, _+_, _*_, _≤_, _<_}
+use Prim.Native.Nat.{ℕ, zero, suc, _+_, _≤_, _<_}
 use mathlib.Core.Path.{_≡_, refl, sym, _∙_, ap, subst}
-use mathlib.Core.Bool.{Bool, true, false, cond, not, _&&_, _||_}
+use mathlib.Core.Bool.{Bool, true, false, cond, not, _||_}
 use mathlib.Core.Option.{Option, none, some}
-use mathlib.Core.List.{List, [], _∷_, _++_}
+use mathlib.Core.List.{List, [], _∷_}
 use native.Mathlib.Nat.{le-of-suc-le-suc, not-suc-le-zero}
 use native.Mathlib.Omega.{arith}
 use lib.ListN.{length, take, drop, getD}
 use lib.Dec.{eqb, lit<, lit≤}
 use borrow.Author.Tests.{eqb-true, eq-eqb, ne-eqb}
 use Rattle.iscc.specs.Refusals.{Refusal}
-use Rattle.iscc.specs.Answer.{Answer, accept, refuse, _>>=_, _>>_, _otherwise_}
+use Rattle.iscc.specs.Answer.{accept}
 use Rattle.iscc.specs.Permitted.{META, SEMANTIC, CONTENT, DATA, INSTANCE, Set, setOf, setNumber, unitTypes, unitCount}
 use Rattle.iscc.specs.Permitted as permitted
 use Rattle.iscc.specs.Meaning.{Meaning, composite, isIn, setIn}
@@ -25,8 +25,8 @@ use Rattle.iscc.proofs.Digits.{and-true}
 use Rattle.iscc.proofs.Permitted.{set-back}
 use Rattle.iscc.proofs.Items.{sameType-eq}
 use Rattle.units.specs.declared.summary.Summary.{Summary}
-use Rattle.units.specs.Summary.{Placed, Summarizes, firstSubtype, anySubtyped}
-use Rattle.units.proofs.Snoc.{subtyped, subtyped-cons}
+use Rattle.units.specs.Summary.{Placed, firstSubtype, anySubtyped}
+use Rattle.units.proofs.Snoc.{subtyped}
 use Rattle.units.proofs.Added.{place-tells, any-is}
 use Rattle.composite.specs.Bodies.{parts, rows, bodiesIn, compositeAs, Makes, placeIn, setAt, subtypeAt}
 

@@ -1,29 +1,28 @@
 -- A composite as its units. Assumes nothing.
-use Prim.Native.Nat.{ℕ, zero, suc, _+_, _-_, _*_, _≤_, _<_}
+use Prim.Native.Nat.{ℕ, _+_, _-_, _*_, _≤_, _<_}
 use mathlib.Core.Path.{_≡_, refl, sym, _∙_, ap, ap₂, subst, subst⁻¹}
-use mathlib.Core.Bool.{Bool, true, false, cond, not, _&&_, _||_, false≢true}
+use mathlib.Core.Bool.{Bool, true, false, cond, false≢true}
 use mathlib.Core.Option.{Option, none, some}
-use mathlib.Core.List.{List, [], _∷_, _++_, append-assoc, append-nil}
+use mathlib.Core.List.{List, [], _++_, append-assoc, append-nil}
 use native.Mathlib.Omega.{arith}
 use lib.ListN.{length, take, drop, getD, length-append, length-drop, drop-of-length-le}
-use lib.Seq.{take-all, drop-drop, length-take-le, drop-cons}
-use lib.Dec.{eqb, leb, lit<, lit≤}
-use borrow.Author.Tests.{lt-ltb, le-leb, lt-leb, leb-true, eq-eqb, eqb-true}
-use Rattle.iscc.specs.Refusals.{Refusal, notPermitted, shortBody, bytesLeftOver, areaTooShort}
-use Rattle.iscc.specs.Answer.{Answer, accept, refuse, _>>=_, _>>_, _otherwise_, into, areaAfter}
+use lib.Seq.{take-all, drop-drop}
+use lib.Dec.{eqb, lit<}
+use borrow.Author.Tests.{lt-ltb, le-leb, lt-leb, leb-true}
+use Rattle.iscc.specs.Refusals.{Refusal, notPermitted, bytesLeftOver}
+use Rattle.iscc.specs.Answer.{Answer, accept, refuse, _>>=_, areaAfter}
 use Rattle.iscc.specs.Digits.{Below}
-use Rattle.iscc.specs.Varnibble.{Parsed}
 use Rattle.iscc.specs.Header.{headerBytes}
-use Rattle.iscc.specs.Permitted.{MainType, META, SEMANTIC, CONTENT, DATA, INSTANCE, ISCC, ID, number, typeOf, mainTypeOf, isUnit, Set, sets, setOf, setNumber, unitTypes, unitCount, compositeSubtype, row, permits, bodyBytes}
-use Rattle.iscc.specs.Meaning.{Meaning, composite, isIn, setIn, Permitted}
-use Rattle.iscc.specs.Item.{Item, itemBytes, readItem, readOne, unitBytes, writeUnit, nextBody, behind, compositeOf, meaningAs, meaningOf}
-use Rattle.iscc.specs.Items.{unit64, unitIn, unitsOf, itemsBytes, splitBytes}
+use Rattle.iscc.specs.Permitted.{MainType, ISCC, number, typeOf, mainTypeOf, isUnit, Set, sets, setOf, setNumber, unitTypes, unitCount, compositeSubtype, row, permits, bodyBytes}
+use Rattle.iscc.specs.Meaning.{composite, Permitted}
+use Rattle.iscc.specs.Item.{Item, itemBytes, readItem, readOne, unitBytes, writeUnit, compositeOf, meaningAs, meaningOf}
+use Rattle.iscc.specs.Items.{unitsOf, itemsBytes, splitBytes}
 use Rattle.iscc.specs.Forms.{unitSetAs}
 use Rattle.iscc.specs.declared.main_type.MainType as code
 use Rattle.iscc.specs.declared.tables.UnitSet.{UnitSet}
 use Rattle.iscc.proofs.Header.{length-short}
-use Rattle.iscc.proofs.Permitted.{number-type, number-back, set-back, count-most, small}
-use Rattle.iscc.proofs.Item.{PermittedItem, ReadItem, item-read}
+use Rattle.iscc.proofs.Permitted.{number-type, number-back, count-most, small}
+use Rattle.iscc.proofs.Item.{PermittedItem, item-read}
 use Rattle.iscc.proofs.Split.{unitsIn}
 use Rattle.iscc.proofs.Meaning.{meant-item}
 use Rattle.units.specs.Summary.{isSubtyped}
@@ -32,7 +31,7 @@ use Rattle.unit.specs.declared.reader.Unit.{Unit}
 use Rattle.unit.proofs.Bounds.{UnitIs, itemFrom}
 use Rattle.unit.proofs.Table.{seven}
 use Rattle.composite.specs.declared.bodies.Composite.{Composite}
-use Rattle.composite.specs.Bodies.{parts, rows, laid, bodiesIn, compositeAs}
+use Rattle.composite.specs.Bodies.{parts, rows, laid, compositeAs}
 use Rattle.composite.specs.Code.{Sound, unitOf, unitAt, splitInto}
 use Rattle.units.proofs.Reached.{rest-is}
 use Rattle.composite.proofs.Parts.{laid-length, laid-same, rows-same}

@@ -49,7 +49,7 @@ fn lay(c: Composite, count: usize, out: &mut [u8])
 }
 
 // Writes a composite as its own bytes, or 15.
-pub fn write(c: Composite, out: &mut [u8]) -> Written
+pub(crate) fn write(c: Composite, out: &mut [u8]) -> Written
     requires { ⌜ Sound c ⌝ }
     ensures answer { λ r. ⌜ r ≡ writtenAs (into (length (now (out .entry))) (accept (codeBytes c))) ⌝ }
     ensures area { λ r. ⌜ now (out .exit) ≡ areaAfter (into (length (now (out .entry))) (accept (codeBytes c))) (now (out .entry)) ⌝ }
@@ -103,7 +103,7 @@ fn put_units(c: Composite, set: UnitSet, out: &mut [u8])
 }
 
 // Writes a composite as its units, or 15.
-pub fn write_units(c: Composite, out: &mut [u8]) -> Written
+pub(crate) fn write_units(c: Composite, out: &mut [u8]) -> Written
     requires { ⌜ Sound c ⌝ }
     ensures answer { λ r. ⌜ r ≡ writtenAs (into (length (now (out .entry))) (accept (splitInto c))) ⌝ }
     ensures area { λ r. ⌜ now (out .exit) ≡ areaAfter (into (length (now (out .entry))) (accept (splitInto c))) (now (out .entry)) ⌝ }

@@ -14,34 +14,18 @@ use Rattle.composite.proofs.Units.{split-left, split-other, code-room, 
 use borrow.Author.Needs.{needs}
 use Rattle.composite.proofs.split.split_item.Statement.{statement}
 use Rattle.composite.proofs.split.split_item.Tie as tie
-use Rattle.composite.proofs.split.split_item.Reads as reads
-use Rattle.composite.proofs.split.split_item.Lts as lts
-use Rattle.composite.proofs.gather.from_code.Reads as from-code-reads
-use Rattle.composite.proofs.writer.write_units.Reads as write-units-reads
-use Rattle.iscc.proofs.main_type.MainType.is.Reads as is-reads
 
--- src/split.rt:25:9
 returns : tie.Need-returns
 returns c =
     let s = c .before .before .before .before in
     refused-into _ (s .args .out .now) _ (split-left _ _ (unit-is _ refl _ (s .pre)) (c .if1 .taken))
 
--- src/split.rt:27:9
-is-requires : tie.Need-is-requires
-is-requires c κs = search needs
-
--- src/split.rt:28:9
 returns-2 : tie.Need-returns-2
 returns-2 c =
     let e = c .before .before in
     let s = e .before .before .before .before in
     refused-into _ (s .args .out .now) _ (split-other _ _ (unit-is _ refl _ (s .pre)) (e .if1 .left) (c .before .is .ensures) (not-true _ (c .if2 .taken)))
 
--- src/split.rt:30:49
-cast-from-code : tie.Need-cast-from-code
-cast-from-code c = search needs
-
--- src/split.rt:30:9
 from-code-requires : tie.Need-from-code-requires
 from-code-requires c κs =
     let i = c .before .before in
@@ -49,7 +33,6 @@ from-code-requires c κs =
     let s = e .before .before .before .before in
     code-room _ _ (unit-is _ refl _ (s .pre)) (e .if1 .left) (eqb-true _ 5 (sym (i .is .ensures) ∙ not-false _ (c .before .if2 .left)))
 
--- src/split.rt:31:5
 write-units-requires : tie.Need-write-units-requires
 write-units-requires c κs =
     let t = c .before .before .before in
@@ -59,11 +42,6 @@ write-units-requires c κs =
     split-sound _ _ (unit-is _ refl _ (s .pre)) (e .if1 .left) (eqb-true _ 5 (sym (t .before .is .ensures) ∙ not-false _ (t .if2 .left)))
     (below-all 256 (s .args .bytes .now) (λ i h. omega (arith, b .shared-slice-known .given i))) _ (c .before .from-code .ensures)
 
--- src/split.rt:19:1
-same-length : tie.Need-same-length
-same-length c = search needs
-
--- src/split.rt:19:1
 returns-3 : tie.Need-returns-3
 returns-3 c =
     let w = c .before .before in
@@ -84,10 +62,10 @@ split-item-spec =
     tie.close
     (tie.spec
     returns
-    is-requires
+    (λ c κs. search needs)
     returns-2
-    cast-from-code
+    (λ c. search needs)
     from-code-requires
     write-units-requires
-    same-length
+    (λ c. search needs)
     returns-3)

@@ -12,10 +12,6 @@ use Rattle.composite.proofs.Parts.{Laid, none-laid, more-laid, all-laid
 use Rattle.composite.proofs.Units.{code-ok, code-long, code-units}
 use Rattle.composite.proofs.writer.put_units.Statement.{statement}
 use Rattle.composite.proofs.writer.put_units.Tie as tie
-use Rattle.composite.proofs.writer.put_units.Reads as reads
-use Rattle.composite.proofs.writer.put_units.Lts as lts
-use Rattle.composite.proofs.bodies.bodies_of.Reads as bodies-of-reads
-use Rattle.composite.proofs.writer.put_unit.Reads as put-unit-reads
 
 abbrev unitIn : List MainType → ℕ → List (List ℕ) → ℕ → List ℕ
 unitIn units s rows j = itemBytes (unitOf (getD units j (record { number = 0 }) .number) s (getD rows j []))
@@ -26,35 +22,9 @@ Inv-loop out₀ rows units count subtype i₀ out i = (i ≤ count) × Laid (uni
 abbrev μ-loop : tie.MeasureT-loop
 μ-loop out₀ rows units count subtype i₀ out i = count - i
 
--- src/writer.rt:94:16
-bodies-of-requires : tie.Need-bodies-of-requires Inv-loop μ-loop
-bodies-of-requires c κs = search needs
-
--- src/writer.rt:99:5
 loop-holds : tie.Need-loop-holds Inv-loop μ-loop
 loop-holds c = (omega arith, none-laid _ 10 _)
 
--- src/writer.rt:100:18
-mul-put-unit : tie.Need-mul-put-unit Inv-loop μ-loop
-mul-put-unit c = search needs
-
--- src/writer.rt:100:18
-array-copy-out-put-unit : tie.Need-array-copy-out-put-unit Inv-loop μ-loop
-array-copy-out-put-unit c = search needs
-
--- src/writer.rt:100:37
-mul-put-unit-2 : tie.Need-mul-put-unit-2 Inv-loop μ-loop
-mul-put-unit-2 c = search needs
-
--- src/writer.rt:100:37
-array-copy-out-put-unit-2 : tie.Need-array-copy-out-put-unit-2 Inv-loop μ-loop
-array-copy-out-put-unit-2 c = search needs
-
--- src/writer.rt:100:46
-mul-put-unit-3 : tie.Need-mul-put-unit-3 Inv-loop μ-loop
-mul-put-unit-3 c = search needs
-
--- src/writer.rt:100:9
 put-unit-requires : tie.Need-put-unit-requires Inv-loop μ-loop
 put-unit-requires c κs =
     let l = c .before .before .before .before in
@@ -63,15 +33,6 @@ put-unit-requires c κs =
     let k = code-ok (s .args .c) (s .pre .0) (s .args .set) (s .pre .1) (b .bodies-of .result) (b .bodies-of .ensures) (l .loop .i) (omega arith) in
     (k .0, k .1, omega (arith, l .loop .inv .1 .same, s .pre .3))
 
--- src/writer.rt:101:9
-add-i : tie.Need-add-i Inv-loop μ-loop
-add-i c = search needs
-
--- src/writer.rt:99:5
-loop-less : tie.Need-loop-less Inv-loop μ-loop
-loop-less c = search needs
-
--- src/writer.rt:99:5
 loop-again : tie.Need-loop-again Inv-loop μ-loop
 loop-again c =
     let w = c .before .before in
@@ -84,11 +45,6 @@ loop-again c =
           (code-long (s .args .c) (s .pre .0) (s .args .set) (s .pre .1) (b .bodies-of .result) (b .bodies-of .ensures) (l .loop .i) (omega arith)) e (w .put-unit .ensures),
     )
 
--- src/writer.rt:90:1
-same-length : tie.Need-same-length Inv-loop μ-loop
-same-length c = search needs
-
--- src/writer.rt:90:1
 returns : tie.Need-returns Inv-loop μ-loop
 returns c =
     let b = c .before .before .before in
@@ -102,16 +58,16 @@ put-units-spec =
     (tie.spec
     Inv-loop
     μ-loop
-    bodies-of-requires
+    (λ c κs. search needs)
     loop-holds
-    mul-put-unit
-    array-copy-out-put-unit
-    mul-put-unit-2
-    array-copy-out-put-unit-2
-    mul-put-unit-3
+    (λ c. search needs)
+    (λ c. search needs)
+    (λ c. search needs)
+    (λ c. search needs)
+    (λ c. search needs)
     put-unit-requires
-    add-i
-    loop-less
+    (λ c. search needs)
+    (λ c. search needs)
     loop-again
-    same-length
+    (λ c. search needs)
     returns)
