@@ -1,20 +1,20 @@
 -- The bytes of a composite by value. Assumes nothing.
 use Prim.Native.Nat.{ℕ, zero, suc, _+_, _-_, _*_, _≤_, _<_}
-use mathlib.Core.Path.{_≡_, refl, sym, _∙_, ap, subst}
-use mathlib.Core.Bool.{Bool, true, false, cond, _&&_}
+use mathlib.Core.Path.{_≡_, refl, sym, _∙_, ap}
+use mathlib.Core.Bool.{Bool, true, false}
 use mathlib.Core.Option.{Option, none, some}
-use mathlib.Core.List.{List, [], _∷_, _++_, append-assoc, append-nil}
+use mathlib.Core.List.{List, [], _∷_, _++_, append-nil}
 use native.Mathlib.Nat.{le-of-suc-le-suc, not-suc-le-zero}
 use native.Mathlib.Omega.{arith}
 use lib.ListN.{length, take, drop, getD, length-append}
-use lib.Dec.{eqb, leb, lit≤, lit<}
-use borrow.Author.Tests.{le-leb, lt-leb, leb-true}
+use lib.Dec.{leb, lit≤}
+use borrow.Author.Tests.{le-leb, lt-leb}
 use Rattle.iscc.specs.Refusals.{areaTooShort}
-use Rattle.iscc.specs.Answer.{Answer, accept, _>>=_, _>>_, _otherwise_, into, areaAfter}
+use Rattle.iscc.specs.Answer.{accept, into, areaAfter}
 use Rattle.iscc.specs.Header.{Header, headerBytes, writeHeader}
-use Rattle.iscc.specs.Permitted.{setOf, setNumber, unitCount, unitTypes, compositeSubtype}
-use Rattle.iscc.specs.Meaning.{Meaning, composite, isIn, setIn, Eight, Sized, Permitted}
-use Rattle.iscc.specs.Item.{Item, itemBytes, itemOf, bytesIn}
+use Rattle.iscc.specs.Permitted.{setOf, setNumber, unitCount}
+use Rattle.iscc.specs.Meaning.{composite, isIn, setIn, Eight, Sized, Permitted}
+use Rattle.iscc.specs.Item.{itemBytes, itemOf, bytesIn}
 use Rattle.iscc.specs.Forms.{writtenAs}
 use Rattle.iscc.specs.declared.written.Written.{Written}
 use Rattle.iscc.specs.declared.written.Written.the-variants.{Length, Refused}

@@ -1,25 +1,23 @@
 -- What a list's verdict says of the bytes that are written. Assumes nothing.
-use Prim.Native.Nat.{ℕ, zero, suc, _+_, _≤_, _<_}
+use Prim.Native.Nat.{ℕ, zero, suc, _≤_, _<_}
 use mathlib.Core.Path.{_≡_, refl, sym, _∙_, ap, subst, subst⁻¹}
-use mathlib.Core.Bool.{Bool, true, false, cond, not}
-use mathlib.Core.List.{List, [], _∷_, _++_, append-nil}
+use mathlib.Core.Bool.{Bool, true, false, cond}
+use mathlib.Core.List.{List, [], _∷_}
 use native.Mathlib.Omega.{arith}
 use lib.ListN.{length, drop}
 use lib.Dec.{eqb, leb}
-use borrow.Author.Tests.{le-leb, eq-eqb, ne-eqb}
 use Rattle.iscc.specs.Refusals.{Refusal, notJoinable, lacksDataOrInstance}
 use Rattle.iscc.specs.Answer.{Answer, accept, refuse, _>>=_, _>>_, _otherwise_, into, areaAfter}
 use Rattle.iscc.specs.Digits.{Below}
 use Rattle.iscc.specs.Meaning.{Meaning, composite, Permitted}
 use Rattle.iscc.specs.Varnibble.{Parsed}
-use Rattle.iscc.specs.Item.{Item, readItem, itemBytes, itemOf, meaningOf}
+use Rattle.iscc.specs.Item.{Item, readItem, itemBytes, itemOf}
 use Rattle.iscc.specs.Lists.{firstNot}
 use Rattle.iscc.specs.Permitted.{META, SEMANTIC, CONTENT}
-use Rattle.iscc.specs.Items.{bodyIn, subtypeOf, readUpTo, readItems, joinable, compositeFrom, joinedMeaning, joinedBytes, join, meaningOfItems}
+use Rattle.iscc.specs.Items.{bodyIn, subtypeOf, readUpTo, readItems, joinable, compositeFrom, joinedMeaning, joinedBytes}
 use Rattle.iscc.specs.Forms.{writtenAs}
-use Rattle.iscc.specs.declared.written.Written.{Written}
 use Rattle.iscc.specs.declared.written.Written.the-variants as written
-use Rattle.iscc.proofs.Answer.{answered, accept-inj}
+use Rattle.iscc.proofs.Answer.{answered}
 use Rattle.iscc.proofs.Items.{items-read, composed-permitted}
 use Rattle.units.specs.declared.summary.Summary.{Summary}
 use Rattle.units.specs.declared.reader.Reading.{Reading}

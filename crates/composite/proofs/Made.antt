@@ -1,16 +1,16 @@
 -- The composite that a list makes, from the numbers of its summary. Assumes nothing.
-use Prim.Native.Nat.{ℕ, zero, suc, _+_, _*_, _≤_, _<_}
+use Prim.Native.Nat.{ℕ, zero, suc, _+_, _≤_, _<_}
 use mathlib.Core.Path.{_≡_, refl, sym, _∙_, ap, subst}
-use mathlib.Core.Bool.{Bool, true, false, cond, not, _&&_, _||_}
+use mathlib.Core.Bool.{Bool, true, false, cond, not, _||_}
 use mathlib.Core.Option.{Option, none, some}
-use mathlib.Core.List.{List, [], _∷_, _++_}
+use mathlib.Core.List.{List, [], _∷_}
 use native.Mathlib.Nat.{le-of-suc-le-suc, not-suc-le-zero}
 use native.Mathlib.Omega.{arith}
 use lib.ListN.{length, take, drop, getD}
 use lib.Dec.{eqb, lit<, lit≤}
 use borrow.Author.Tests.{eqb-true, eq-eqb, ne-eqb}
 use Rattle.iscc.specs.Refusals.{Refusal}
-use Rattle.iscc.specs.Answer.{Answer, accept, refuse, _>>=_, _>>_, _otherwise_}
+use Rattle.iscc.specs.Answer.{accept}
 use Rattle.iscc.specs.Permitted.{META, SEMANTIC, CONTENT, DATA, INSTANCE, Set, setOf, setNumber, unitTypes, unitCount}
 use Rattle.iscc.specs.Permitted as permitted
 use Rattle.iscc.specs.Meaning.{Meaning, composite, isIn, setIn}
@@ -25,8 +25,8 @@ use Rattle.iscc.proofs.Digits.{and-true}
 use Rattle.iscc.proofs.Permitted.{set-back}
 use Rattle.iscc.proofs.Items.{sameType-eq}
 use Rattle.units.specs.declared.summary.Summary.{Summary}
-use Rattle.units.specs.Summary.{Placed, Summarizes, firstSubtype, anySubtyped}
-use Rattle.units.proofs.Snoc.{subtyped, subtyped-cons}
+use Rattle.units.specs.Summary.{Placed, firstSubtype, anySubtyped}
+use Rattle.units.proofs.Snoc.{subtyped}
 use Rattle.units.proofs.Added.{place-tells, any-is}
 use Rattle.composite.specs.Bodies.{parts, rows, bodiesIn, compositeAs, Makes, placeIn, setAt, subtypeAt}
 
@@ -146,11 +146,11 @@ place-at bs is m at e p = go (bodyIn m is) p (λ body. eight-in m is body e)
         let l : length body ≡ 8 = f body refl in
         (omega (arith, p .1), ap (λ (k : ℕ). take k (drop at bs)) (sym l) ∙ p .2)
 
-abbrev All : (MainType → Type 0) → List MainType → Type 0
+abbrev pub All : (MainType → Type 0) → List MainType → Type 0
 All P [] = Unit {0}
 All P (m ∷ ms) = P m × All P ms
 
-all-at : (P : MainType → Type 0) (n : ℕ) (ms : List MainType) (i : ℕ) (d : MainType) → All P (take n ms) → i < n → n ≤ length ms → P (getD ms i d)
+pub all-at : (P : MainType → Type 0) (n : ℕ) (ms : List MainType) (i : ℕ) (d : MainType) → All P (take n ms) → i < n → n ≤ length ms → P (getD ms i d)
 all-at P zero ms i d a h l = absurd (not-suc-le-zero h)
 all-at P (suc n) [] i d a h l = absurd (not-suc-le-zero l)
 all-at P (suc n) (m ∷ ms) zero d a h l = a .0
@@ -215,7 +215,7 @@ module _ (l : Summary) (r : Bool) (e : r ≡ anySubtyped (l .places)) where
   subtype-6 t z = rw (← e, t, ne-eqb (getD (l .places) 0 0) 0 z)
 
 -- a set's units fit the table
-five : (a b c : Bool) → unitCount (record { meta = a; semantic = b; content = c }) ≤ length (unitSetAs (record { meta = a; semantic = b; content = c }) .units)
+pub five : (a b c : Bool) → unitCount (record { meta = a; semantic = b; content = c }) ≤ length (unitSetAs (record { meta = a; semantic = b; content = c }) .units)
 unfolding unitSetAs unitTypes
 five true true true = lit≤ tt
 five true true false = lit≤ tt

@@ -119,3 +119,8 @@ laid-length f w (suc n) e =
     let a : length (laid f n) ≡ n * w = laid-length f w n (λ i h. e i (omega arith)) in
     let b : length (f n) ≡ w = e n (omega arith) in
     length-append (laid f n) (f n) ∙ omega arith
+
+pub laid-same : (f g : ℕ → List ℕ) → ((i : ℕ) → f i ≡ g i) → (n : ℕ) → laid f n ≡ laid g n
+unfolding laid
+laid-same f g e zero = refl
+laid-same f g e (suc n) = ap₂ (λ (x y : List ℕ). x ++ y) (laid-same f g e n) (e n)

@@ -1,32 +1,29 @@
 -- The one code of a list: an item comes back from its meaning, and a composite's bytes fit 42. Assumes nothing.
-use Prim.Native.Nat.{ℕ, zero, suc, _+_, _-_, _*_, _≤_, _<_}
-use mathlib.Core.Path.{_≡_, refl, sym, _∙_, ap, subst}
+use Prim.Native.Nat.{ℕ, _≤_, _<_}
+use mathlib.Core.Path.{_≡_, refl, sym, _∙_, ap}
 use mathlib.Core.Bool.{Bool, true, false}
-use mathlib.Core.Option.{Option, none, some}
 use mathlib.Core.List.{List, [], _∷_, _++_, append-assoc, append-nil}
 use native.Mathlib.Omega.{arith}
 use lib.ListN.{length, take, drop, take-append-drop}
-use lib.Seq.{take-length}
 use lib.Dec.{leb}
 use borrow.Author.Tests.{le-leb}
-use Rattle.iscc.specs.Refusals.{Refusal, areaTooShort}
-use Rattle.iscc.specs.Answer.{Answer, accept, refuse, _>>=_, _>>_, _otherwise_, into, areaAfter}
+use Rattle.iscc.specs.Refusals.{Refusal}
+use Rattle.iscc.specs.Answer.{Answer, accept, refuse, _>>=_, into, areaAfter}
 use Rattle.iscc.specs.Digits.{Below}
 use Rattle.iscc.specs.Permitted.{MainType, META, SEMANTIC, CONTENT, DATA, INSTANCE, ISCC, ID, isUnit, setOf, setNumber, bodyBytes}
 use Rattle.iscc.specs.Meaning.{Meaning, unit, isIn, setIn, Permitted}
-use Rattle.iscc.specs.Item.{Item, itemBytes, itemOf, nextBody, behind, compositeOf, meaningAs, meaningOf, lengthNoOf, bytesIn}
+use Rattle.iscc.specs.Item.{Item, itemBytes, itemOf, nextBody, behind, compositeOf, meaningAs, meaningOf, bytesIn}
 use Rattle.iscc.specs.Items.{readItems, itemsBytes, compositeFrom, meaningOfItems}
 use Rattle.iscc.specs.Forms.{writtenAs}
 use Rattle.iscc.specs.declared.written.Written.{Written}
 use Rattle.iscc.specs.declared.written.Written.the-variants as written
-use Rattle.iscc.proofs.Permitted.{Small, small, lengthNo-back, number-back}
+use Rattle.iscc.proofs.Permitted.{small, lengthNo-back, number-back}
 use Rattle.iscc.proofs.Item.{PermittedItem, item-most}
 use Rattle.iscc.proofs.Meaning.{item-permitted}
 use Rattle.iscc.proofs.Items.{ReadAll, items-read}
 use Rattle.units.specs.declared.summary.Summary.{Summary}
 use Rattle.units.specs.Reading.{refusedIndex}
 use Rattle.units.specs.Verdict.{brokenAt}
-use Rattle.composite.specs.declared.code.Coded.{Coded}
 use Rattle.composite.specs.declared.code.Coded.the-variants as coded
 use Rattle.composite.specs.Joined.{Listed, composedBytes}
 use Rattle.composite.specs.Canonical.{canonicalBytes, placeOf, codedAs}

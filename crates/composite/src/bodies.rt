@@ -29,7 +29,7 @@ pub fn bodies_of(c: Composite) -> [[u8; 8]; 5]
 }
 
 // The eight bytes at a place.
-pub fn eight(bytes: &[u8], at: usize) -> [u8; 8]
+pub(crate) fn eight(bytes: &[u8], at: usize) -> [u8; 8]
     requires { ⌜ at + 8 ≤ length (now bytes) ⌝ }
     ensures { λ r. ⌜ r ≡ take 8 (drop at (now (bytes .entry))) ⌝ }
 {
@@ -46,7 +46,7 @@ pub fn eight(bytes: &[u8], at: usize) -> [u8; 8]
 }
 
 // One body, at a place of an area.
-pub fn put(body: [u8; 8], at: usize, out: &mut [u8])
+pub(crate) fn put(body: [u8; 8], at: usize, out: &mut [u8])
     requires { ⌜ at + 8 ≤ length (now out) ⌝ }
     ensures { λ _. ⌜ now (out .exit) ≡ take at (now (out .entry)) ++ (body ++ drop (at + 8) (now (out .entry))) ⌝ }
 {

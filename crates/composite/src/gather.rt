@@ -64,7 +64,7 @@ fn rows_of(bytes: &[u8], places: [usize; 7], set: UnitSet) -> [[u8; 8]; 5]
 }
 
 // The composite that a list makes.
-pub fn from_list(bytes: &[u8], list: Summary) -> Composite
+pub(crate) fn from_list(bytes: &[u8], list: Summary) -> Composite
     requires { ⌜ ((m : Meaning) × Makes (now bytes) list m) ⌝ }
     ensures { λ r. ⌜ ((m : Meaning) → Makes (now (bytes .entry)) list m → r ≡ compositeAs m) ⌝ }
 {
@@ -90,7 +90,7 @@ fn rows_behind(bytes: &[u8], count: usize) -> [[u8; 8]; 5]
 }
 
 // The composite whose own bytes these are, by the subtype and the length number of its header.
-pub fn from_code(bytes: &[u8], subtype: u32, number: usize) -> Composite
+pub(crate) fn from_code(bytes: &[u8], subtype: u32, number: usize) -> Composite
     requires { ⌜ 2 + unitCount (setOf number) * 8 ≤ length (now bytes) ⌝ }
     ensures { λ r. ⌜ r ≡ parts number subtype (rows (λ i. take 8 (drop (2 + i * 8) (now (bytes .entry)))) (unitCount (setOf number)) 5) ⌝ }
 {

@@ -18,7 +18,7 @@ use units::verdict;
 use units::verdict::Verdict;
 
 // Writes the composite that a list makes, or 15.
-pub fn write_list(bytes: &[u8], list: Summary, out: &mut [u8]) -> Written
+pub(crate) fn write_list(bytes: &[u8], list: Summary, out: &mut [u8]) -> Written
     requires { ⌜ ((m : Meaning) × Makes (now bytes) list m) ⌝ }
     ensures answer { λ r. ⌜ ((m : Meaning) → Makes (now (bytes .entry)) list m → r ≡ writtenAs (into (length (now (out .entry))) (accept (itemBytes (itemOf m))))) ⌝ }
     ensures area { λ r. ⌜ ((m : Meaning) → Makes (now (bytes .entry)) list m → now (out .exit) ≡ areaAfter (into (length (now (out .entry))) (accept (itemBytes (itemOf m)))) (now (out .entry))) ⌝ }

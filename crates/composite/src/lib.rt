@@ -3,4 +3,5 @@ pub mod bodies;
 pub mod code;
 pub mod gather;
 pub mod join;
+pub mod split;
 pub mod writer;

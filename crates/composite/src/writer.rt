@@ -7,7 +7,7 @@ ghost use lib.ListN.{length, take, drop, getD};
 ghost use Rattle.iscc.specs.Answer.{accept, areaAfter, into};
 ghost use Rattle.iscc.specs.Permitted.{setOf, unitCount};
 ghost use Rattle.iscc.specs.Item.{itemBytes};
-ghost use Rattle.iscc.specs.Forms.{writtenAs};
+ghost use Rattle.iscc.specs.Forms.{writtenAs, unitSetAs};
 ghost use Rattle.units.specs.Summary.{isSubtyped};
 ghost use Rattle.composite.specs.Bodies.{laid};
 ghost use Rattle.composite.specs.Code.{Sound, codeBytes, unitOf, unitAt, splitInto};
@@ -17,6 +17,7 @@ use header::Header;
 use iscc::main_type::MainType;
 use iscc::refusal::Refusal;
 use iscc::tables;
+use iscc::tables::UnitSet;
 use iscc::written::Written;
 
 // The first bodies end to end, at the front of an area.
@@ -48,7 +49,7 @@ fn lay(c: Composite, count: usize, out: &mut [u8])
 }
 
 // Writes a composite as its own bytes, or 15.
-pub fn write(c: Composite, out: &mut [u8]) -> Written
+pub(crate) fn write(c: Composite, out: &mut [u8]) -> Written
     requires { ⌜ Sound c ⌝ }
     ensures answer { λ r. ⌜ r ≡ writtenAs (into (length (now (out .entry))) (accept (codeBytes c))) ⌝ }
     ensures area { λ r. ⌜ now (out .exit) ≡ areaAfter (into (length (now (out .entry))) (accept (codeBytes c))) (now (out .entry)) ⌝ }
@@ -60,5 +61,58 @@ pub fn write(c: Composite, out: &mut [u8]) -> Written
         return Written::Refused(Refusal::AREA_TOO_SHORT);
     }
     lay(c, count, out);
+    Written::Length(size)
+}
+
+// SEMANTIC and CONTENT take the composite's subtype, the other units have 0.
+fn unit_subtype(main_type: MainType, subtype: u32) -> u32
+    ensures { λ r. ⌜ r ≡ cond (isSubtyped («main_type» .number)) subtype 0 ⌝ }
+{
+    if main_type.is(MainType::SEMANTIC) {
+        return subtype;
+    }
+    if main_type.is(MainType::CONTENT) {
+        return subtype;
+    }
+    0
+}
+
+// A unit of 64 bits, at a place of an area.
+fn put_unit(main_type: MainType, subtype: u32, body: [u8; 8], at: usize, out: &mut [u8])
+    requires { ⌜ («main_type» .number < 5) × (isSubtyped («main_type» .number) ≡ true → subtype ≤ 4) × (at + 10 ≤ length (now out)) ⌝ }
+    ensures { λ _. ⌜ now (out .exit) ≡ take at (now (out .entry)) ++ (itemBytes (unitOf («main_type» .number) subtype body) ++ drop (at + 10) (now (out .entry))) ⌝ }
+{
+    let own = unit_subtype(main_type, subtype);
+    unit::writer::write(main_type, own, 0, 1, &body, &mut out[at..]);
+}
+
+// A composite's units end to end, at the front of an area.
+fn put_units(c: Composite, set: UnitSet, out: &mut [u8])
+    requires { ⌜ Sound c × (set ≡ unitSetAs (setOf (c .length))) × (set .count ≤ 5) × (set .count * 10 ≤ length (now out)) ⌝ }
+    ensures { λ _. ⌜ now (out .exit) ≡ laid (λ i. itemBytes (unitAt c i)) (set .count) ++ drop (set .count * 10) (now (out .entry)) ⌝ }
+{
+    let rows = bodies::bodies_of(c);
+    let units = set.units;
+    let count = set.count;
+    let subtype = c.subtype;
+    let mut i: usize = 0;
+    while i < count {
+        put_unit(units[i], subtype, rows[i], i * 10, out);
+        i += 1;
+    }
+}
+
+// Writes a composite as its units, or 15.
+pub(crate) fn write_units(c: Composite, out: &mut [u8]) -> Written
+    requires { ⌜ Sound c ⌝ }
+    ensures answer { λ r. ⌜ r ≡ writtenAs (into (length (now (out .entry))) (accept (splitInto c))) ⌝ }
+    ensures area { λ r. ⌜ now (out .exit) ≡ areaAfter (into (length (now (out .entry))) (accept (splitInto c))) (now (out .entry)) ⌝ }
+{
+    let set = tables::unit_set(c.length);
+    let size = set.count * 10;
+    if out.len() < size {
+        return Written::Refused(Refusal::AREA_TOO_SHORT);
+    }
+    put_units(c, set, out);
     Written::Length(size)
 }

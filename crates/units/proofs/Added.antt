@@ -1,6 +1,6 @@
 -- The numbers of a list with one item more are those that `added` makes. Assumes nothing.
-use Prim.Native.Nat.{ℕ, zero, suc, _+_, _≤_, _<_}
-use mathlib.Core.Path.{_≡_, refl, sym, _∙_, ap, subst}
+use Prim.Native.Nat.{ℕ, suc, _+_, _<_}
+use mathlib.Core.Path.{_≡_, refl, sym, _∙_}
 use mathlib.Core.Bool.{Bool, true, false, cond, not, _&&_, _||_}
 use mathlib.Core.Option.{Option, none, some}
 use mathlib.Core.List.{List, [], _∷_, _++_}
@@ -14,7 +14,7 @@ use Rattle.iscc.specs.Permitted.{MainType, META, SEMANTIC, CONTENT, DATA, INSTA
 use Rattle.iscc.specs.Meaning.{isIn}
 use Rattle.iscc.specs.Item.{Item}
 use Rattle.iscc.specs.Lists.{every, pairwise, firstNot, firstClash}
-use Rattle.iscc.specs.Items.{sameType, joinable, is64Bits, otherType, hasSubtype, sharedSubtype, bodyIn, has}
+use Rattle.iscc.specs.Items.{sameType, joinable, is64Bits, otherType, sharedSubtype, bodyIn, has}
 use Rattle.iscc.proofs.Permitted.{number-small}
 use Rattle.iscc.proofs.Items.{sameType-eq}
 use Rattle.iscc.proofs.Lists.{firstNot-end, firstNot-snoc, firstClash-end, firstClash-snoc}

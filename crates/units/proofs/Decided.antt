@@ -1,22 +1,19 @@
 -- The tests of a list by its numbers. Assumes nothing.
 use Prim.Native.Nat.{ℕ}
-use mathlib.Core.Path.{_≡_, refl, sym, _∙_, ap}
-use mathlib.Core.Bool.{Bool, true, false, cond}
+use mathlib.Core.Path.{_≡_, refl, _∙_}
 use mathlib.Core.Option.{Option, none, some}
-use mathlib.Core.List.{List, []}
+use mathlib.Core.List.{List}
 use native.Mathlib.Omega.{arith}
-use lib.ListN.{length, getD}
+use lib.ListN.{getD}
 use lib.Dec.{eqb}
 use borrow.Author.Tests.{eq-eqb, ne-eqb}
 use Rattle.iscc.specs.Refusals.{notJoinable, not64Bits, mainTypeTwice, lacksDataOrInstance, subtypesDiffer}
-use Rattle.iscc.specs.Answer.{_>>=_, _>>_, _otherwise_}
-use Rattle.iscc.specs.Permitted.{MainType, DATA, INSTANCE, number}
+use Rattle.iscc.specs.Permitted.{DATA, INSTANCE}
 use Rattle.iscc.specs.Item.{Item}
 use Rattle.iscc.specs.Lists.{every, pairwise}
 use Rattle.iscc.specs.Items.{joinable, is64Bits, otherType, sharedSubtype, bodyIn, orMissing, compositeFrom}
 use Rattle.iscc.proofs.Lists.{firstNot-end, firstClash-end}
 use Rattle.units.specs.declared.summary.Summary.{Summary}
-use Rattle.units.specs.declared.verdict.Verdict.{Verdict}
 use Rattle.units.specs.declared.verdict.Verdict.the-variants.{Composite, Refused}
 use Rattle.units.specs.Summary.{Placed, Summarizes}
 use Rattle.units.specs.Verdict.{brokenAt, verdictOf}

@@ -1,26 +1,21 @@
 -- The list reader on its way: the items so far, and what the rest adds to them. Assumes nothing.
 use Prim.Native.Nat.{ℕ, zero, suc, _+_, _-_, _≤_, _<_}
 use mathlib.Core.Path.{_≡_, refl, sym, _∙_, ap, subst, subst⁻¹}
-use mathlib.Core.Bool.{Bool, true, false, cond}
-use mathlib.Core.Option.{some}
+use mathlib.Core.Bool.{false}
 use mathlib.Core.List.{List, [], _∷_, _++_, append-assoc}
 use native.Mathlib.Omega.{arith}
-use lib.ListN.{length, take, drop, getD, length-append, length-drop}
-use lib.Seq.{drop-at, take-add, length-take-le, drop-drop, take-all, getD-drop}
+use lib.ListN.{length, take, drop, length-append, length-drop}
+use lib.Seq.{drop-drop, take-all}
 use lib.Dec.{leb}
 use borrow.Author.Tests.{le-leb, lt-leb}
 use Rattle.iscc.specs.Refusals.{Refusal}
 use Rattle.iscc.specs.Answer.{Answer, accept, refuse, _>>=_}
-use Rattle.iscc.specs.Digits.{Below}
 use Rattle.iscc.specs.Varnibble.{Parsed}
-use Rattle.iscc.specs.Header.{headerBytes}
-use Rattle.iscc.specs.Permitted.{number, bodyBytes}
-use Rattle.iscc.specs.Item.{Item, headerOf, itemBytes, readItem}
+use Rattle.iscc.specs.Permitted.{number}
+use Rattle.iscc.specs.Item.{Item, readItem}
 use Rattle.iscc.specs.Items.{readUpTo, readItems}
 use Rattle.iscc.proofs.Answer.{accept-inj}
 use Rattle.iscc.proofs.Permitted.{number-small}
-use Rattle.iscc.proofs.Digits.{below-drop}
-use Rattle.iscc.proofs.Item.{PermittedItem, ReadItem, item-read, header-two}
 use Rattle.units.specs.declared.summary.Summary.{Summary}
 use Rattle.units.specs.declared.reader.Reading.{Reading}
 use Rattle.units.specs.declared.reader.Reading.the-variants as Reading
@@ -28,35 +23,10 @@ use Rattle.unit.specs.declared.reader.Unit.{Unit}
 use Rattle.unit.specs.declared.reader.UnitRead.{UnitRead}
 use Rattle.unit.specs.declared.reader.UnitRead.the-variants as found
 use Rattle.unit.specs.Forms.{unitAs, unitReadAs}
-use Rattle.units.specs.Summary.{Placed, Summarizes, none, added}
+use Rattle.unit.proofs.Bounds.{ItemBounds, item-bounds}
+use Rattle.units.specs.Summary.{Summarizes, none, added}
 use Rattle.units.specs.Reading.{refusedUpTo, refusedIndex, readingAs}
 use Rattle.units.proofs.Added.{added-is, none-is}
-
--- ---- an item that was read: a header of two bytes, and then the body
-
-pub record ItemAt (ds : List ℕ) (g : Parsed Item) : Type 0 where
-  pub permitted : PermittedItem (g .result)
-  pub used : g .used ≡ 2 + length (g .result .body)
-  pub within : g .used ≤ length ds
-  pub body : take (length (g .result .body)) (drop 2 ds) ≡ g .result .body
-
-pub item-at : (ds : List ℕ) (g : Parsed Item) → Below 256 ds → readItem ds ≡ accept g → ItemAt ds g
-unfolding itemBytes
-item-at ds g k e =
-    let r : ReadItem ds g = item-read ds g k e in
-    let hb : List ℕ = headerBytes (headerOf (g .result)) in
-    let b : List ℕ = g .result .body in
-    let two : length hb ≡ 2 = header-two (g .result) (r .permitted) in
-    let w : g .used ≤ length ds = r .within in
-    let n : g .used ≡ 2 + length b = omega (arith, length-append hb b, ap length (r .again), length-take-le (g .used) ds w) in
-    let l : length (take 2 ds) ≡ 2 = length-take-le 2 ds (omega arith) in
-    let s : hb ++ b ≡ take 2 ds ++ take (length b) (drop 2 ds) = r .again ∙ ap (λ (m : ℕ). take m ds) n ∙ take-add 2 (length b) ds in
-    record {
-      permitted = r .permitted;
-      used = n;
-      within = w;
-      body = sym (drop-at (take 2 ds) (take (length b) (drop 2 ds)) 2 l) ∙ ap (drop 2) (sym s) ∙ drop-at hb b 2 two;
-    }
 
 -- the part of the bytes from a place on
 pub rest-is : (bs : List ℕ) (at : ℕ) → take (length bs - at) (drop at bs) ≡ drop at bs
@@ -130,20 +100,20 @@ module _ (bs : List ℕ) (is : List Item) (at : ℕ) (l : Summary) (r : Reached 
   pub turn-refused : (q : Refusal) → readItem (drop at bs) ≡ refuse q → (readItems bs ≡ refuse q) × (refusedIndex bs ≡ length is)
   turn-refused q e = refused-here bs is at q e (r .fuel) (r .enough) w (r .items) (r .index)
 
-  module _ (g : Parsed Item) (k : Below 256 bs) (e : readItem (drop at bs) ≡ accept g) where
-    abbrev it : ItemAt (drop at bs) g
-    it = item-at (drop at bs) g (below-drop 256 at bs k) e
+  module _ (g : Parsed Item) (e : readItem (drop at bs) ≡ accept g) where
+    abbrev it : ItemBounds (drop at bs) g
+    it = item-bounds (drop at bs) g e
 
     pub turn-added : Summarizes bs (is ++ (g .result ∷ [])) (added l (number (g .result .mainType)) (g .result .subtype) (length (g .result .body)) (at + 2))
     turn-added =
         added-is bs is l s (g .result) (at + 2)
-        (omega arith, omega (arith, it .used, it .within, length-drop at bs), ap (take (length (g .result .body))) (sym (drop-drop 2 at bs)) ∙ it .body)
+        (omega arith, omega (arith, it .front, it .within, length-drop at bs), ap (take (length (g .result .body))) (sym (drop-drop 2 at bs)) ∙ sym (it .body))
 
     pub turn-last : length bs ≤ at + g .used → readItems bs ≡ accept (is ++ (g .result ∷ []))
     turn-last f = last-here bs is at g e f (r .fuel) (r .enough) w (r .items)
 
     pub turn-more : at + g .used < length bs → Reached bs (is ++ (g .result ∷ [])) (at + g .used)
-    turn-more f = more-here bs is at g e f (omega (arith, it .used)) (r .fuel) (r .enough) w (r .items) (r .index)
+    turn-more f = more-here bs is at g e f (omega (arith, it .front)) (r .fuel) (r .enough) w (r .items) (r .index)
 
 -- ---- the reader's loop
 
@@ -187,17 +157,17 @@ module _ (bs : List ℕ) (l : Summary) (at : ℕ) (w : Running bs l at) {f : Uni
       let t = turn-refused bs (w .items) at l (w .reached) (w .summary) (w .within) q r in
       (rw (t .0, t .1, w .summary .count), λ is z. let n : _≡_ {A = ℕ} 0 1 = let y = t .0 in cc in absurd (omega arith))
 
-  module _ (k : Below 256 bs) (g : Parsed Item) (e : readItem (drop at bs) ≡ accept g) where
+  module _ (g : Parsed Item) (e : readItem (drop at bs) ≡ accept g) where
     abbrev nextList : Summary
     nextList = added l (number (g .result .mainType)) (g .result .subtype) (length (g .result .body)) (at + 2)
 
-    abbrev here : ItemAt (drop at bs) g
-    here = it bs (w .items) at l (w .reached) (w .summary) (w .within) g k e
+    abbrev here : ItemBounds (drop at bs) g
+    here = item-bounds (drop at bs) g e
 
     same-list : added l (number (g .result .mainType)) (g .result .subtype) (g .used - (g .used - length (g .result .body))) (at + (g .used - length (g .result .body))) ≡ nextList
     same-list =
-        let a : g .used - (g .used - length (g .result .body)) ≡ length (g .result .body) = omega (arith, here .used) in
-        let b : g .used - length (g .result .body) ≡ 2 = omega (arith, here .used) in
+        let a : g .used - (g .used - length (g .result .body)) ≡ length (g .result .body) = omega (arith, here .front) in
+        let b : g .used - length (g .result .body) ≡ 2 = omega (arith, here .front) in
         rw (a, b)
 
     next-count : nextList .count ≡ l .count + 1
@@ -207,27 +177,27 @@ module _ (bs : List ℕ) (l : Summary) (at : ℕ) (w : Running bs l at) {f : Uni
     turn-of : Turn bs l at (unitAs g)
     turn-of =
         let items : List Item = w .items ++ (g .result ∷ []) in
-        let s : Summarizes bs items nextList = turn-added bs (w .items) at l (w .reached) (w .summary) (w .within) g k e in
+        let s : Summarizes bs items nextList = turn-added bs (w .items) at l (w .reached) (w .summary) (w .within) g e in
         record {
-          start = omega (arith, here .used);
-          used = omega (arith, here .used);
-          within = omega (arith, here .within, w .within, length-drop at bs, here .used);
+          start = omega (arith, here .front);
+          used = omega (arith, here .front);
+          within = omega (arith, here .within, w .within, length-drop at bs, here .front);
           type = omega (arith, number-small (g .result .mainType));
           more =
               λ j z h. subst⁻¹ (λ (x : Summary). Running bs x (at + g .used)) (z ∙ same-list)
               (record {
                 items = items;
-                reached = turn-more bs (w .items) at l (w .reached) (w .summary) (w .within) g k e h;
+                reached = turn-more bs (w .items) at l (w .reached) (w .summary) (w .within) g e h;
                 summary = s;
-                count = omega (arith, next-count, w .count, here .used);
+                count = omega (arith, next-count, w .count, here .front);
                 within = omega arith;
               });
           ends =
-              λ j z h. let r : readItems bs ≡ accept items = turn-last bs (w .items) at l (w .reached) (w .summary) (w .within) g k e h in
+              λ j z h. let r : readItems bs ≡ accept items = turn-last bs (w .items) at l (w .reached) (w .summary) (w .within) g e h in
               (rw r, λ is y. subst (λ (x : List Item). Summarizes bs x j) (accept-inj (sym r ∙ y)) (subst⁻¹ (λ (x : Summary). Summarizes bs items x) (z ∙ same-list) s));
         }
 
-  pub turn : (u : Unit) → f ≡ found.Unit u → Below 256 bs → Turn bs l at u
-  turn u e k =
+  pub turn : (u : Unit) → f ≡ found.Unit u → Turn bs l at u
+  turn u e =
       let g = unit-found (readItem (take (length bs - at) (drop at bs))) u ef e in
-      subst (Turn bs l at) (g .2) (turn-of k (g .0) (ap readItem (sym (rest-is bs at)) ∙ g .1))
+      subst (Turn bs l at) (g .2) (turn-of (g .0) (ap readItem (sym (rest-is bs at)) ∙ g .1))

@@ -25,7 +25,7 @@ pub struct Summary {
 }
 
 // Of no items.
-pub fn empty() -> Summary
+pub(crate) fn empty() -> Summary
     ensures { λ r. ⌜ r ≡ none ⌝ }
 {
     Summary {
@@ -118,7 +118,13 @@ fn place(places: [usize; 7], number: usize, at: usize) -> [usize; 7]
 }
 
 // One item later: an item of this main type and subtype, whose body is of `size` bytes and stands at `at` in the input.
-pub fn add(list: Summary, main_type: MainType, subtype: u32, size: usize, at: usize) -> Summary
+pub(crate) fn add(
+    list: Summary,
+    main_type: MainType,
+    subtype: u32,
+    size: usize,
+    at: usize,
+) -> Summary
     requires { ⌜ («main_type» .number < 7) × (list .count < 18446744073709551615) ⌝ }
     ensures { λ r. ⌜ r ≡ added list («main_type» .number) subtype size at ⌝ }
 {

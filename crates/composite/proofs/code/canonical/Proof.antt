@@ -13,25 +13,10 @@ use Rattle.composite.proofs.Whole.{canonical-one, canonical-more, coded
 use borrow.Author.Needs.{needs}
 use Rattle.composite.proofs.code.canonical.Statement.{statement}
 use Rattle.composite.proofs.code.canonical.Tie as tie
-use Rattle.composite.proofs.code.canonical.Reads as reads
-use Rattle.composite.proofs.code.canonical.Lts as lts
-use Rattle.bytes.proofs.copy.Reads as copy-reads
-use Rattle.composite.proofs.code.code_of_list.Reads as code-of-list-reads
-use Rattle.units.proofs.reader.read.Reads as read-reads
 
--- src/code.rt:47:9
-read-requires : tie.Need-read-requires
-read-requires c κs = search needs
-
--- src/code.rt:51:26
-enum-known-answer : tie.Need-enum-known-answer
-enum-known-answer c = search needs
-
--- src/code.rt:53:16
 enum-told : tie.Need-enum-told
 enum-told c = search needs
 
--- src/code.rt:54:17
 copy-requires : tie.Need-copy-requires
 copy-requires c κs =
     let t = c .before .before .before in
@@ -41,11 +26,6 @@ copy-requires c κs =
     let o = canonical-one _ _ (listed-of _ (r .read .ensures .0) _ (r .read .ensures .1) (t .enum-told .given .1)) (c .before .if1 .taken) (below-all 256 (s .args .bytes .now) (λ i h. omega (arith, b .shared-slice-known .given i))) in
     omega (arith, o .1, s .pre)
 
--- src/code.rt:55:17
-same-length : tie.Need-same-length
-same-length c = search needs
-
--- src/code.rt:55:17
 returns : tie.Need-returns
 returns c =
     let w = c .before .before in
@@ -59,25 +39,18 @@ returns c =
       w .copy .ensures .1 ∙ ap (λ (x : List ℕ). x ++ drop (length (s .args .bytes .now)) (s .args .out .now)) (take-length (s .args .bytes .now)) ∙ ap (λ (x : Answer (List ℕ)). areaAfter x (s .args .out .now)) (sym (o .0)),
     )
 
--- src/code.rt:57:13
 code-of-list-requires : tie.Need-code-of-list-requires
 code-of-list-requires c κs =
     let t = c .before .before .before in
     let r = t .before .before .before in
     (listed-of _ (r .read .ensures .0) _ (r .read .ensures .1) (t .enum-told .given .1), search needs)
 
--- src/code.rt:42:1
 returns-2 : tie.Need-returns-2
 returns-2 c =
     let r = c .before .before .before .before in
     let s = r .before .before .before in
     coded-unread _ _ _ _ (read-refused _ (r .read .ensures .0) _ _ (c .before .answer .given .1))
 
--- src/code.rt:42:1
-same-length-2 : tie.Need-same-length-2
-same-length-2 c = search needs
-
--- src/code.rt:42:1
 returns-3 : tie.Need-returns-3
 returns-3 c =
     let w = c .before .before in
@@ -93,13 +66,13 @@ pub canonical-spec : {M : Type 1} → statement M
 canonical-spec =
     tie.close
     (tie.spec
-    read-requires
-    enum-known-answer
+    (λ c κs. search needs)
+    (λ c. search needs)
     enum-told
     copy-requires
-    same-length
+    (λ c. search needs)
     returns
     code-of-list-requires
     returns-2
-    same-length-2
+    (λ c. search needs)
     returns-3)

@@ -6,24 +6,10 @@ use Rattle.composite.proofs.Whole.{coded-broken, coded-length, never-re
 use borrow.Author.Needs.{needs}
 use Rattle.composite.proofs.code.code_of_list.Statement.{statement}
 use Rattle.composite.proofs.code.code_of_list.Tie as tie
-use Rattle.composite.proofs.code.code_of_list.Reads as reads
-use Rattle.composite.proofs.code.code_of_list.Lts as lts
-use Rattle.composite.proofs.join.write_list.Reads as write-list-reads
-use Rattle.units.proofs.verdict.decide.Reads as decide-reads
 
--- src/code.rt:28:9
-decide-requires : tie.Need-decide-requires
-decide-requires c κs = search needs
-
--- src/code.rt:30:26
-enum-known-verdict : tie.Need-enum-known-verdict
-enum-known-verdict c = search needs
-
--- src/code.rt:32:57
 enum-told : tie.Need-enum-told
 enum-told c = search needs
 
--- src/code.rt:32:17
 write-list-requires : tie.Need-write-list-requires
 write-list-requires c κs =
     let d = c .before .before .before in
@@ -32,26 +18,12 @@ write-list-requires c κs =
     let k = verdict-makes _ _ (s .pre .0) (d .decide .ensures) (below-all 256 (s .args .bytes .now) (λ i h. omega (arith, b .shared-slice-known .given i))) (c .before .enum-told .given .1) in
     (k .0, k .1)
 
--- src/code.rt:34:33
-enum-known-written : tie.Need-enum-known-written
-enum-known-written c = search needs
-
--- src/code.rt:35:34
-enum-known-written-2 : tie.Need-enum-known-written-2
-enum-known-written-2 c = search needs
-
--- src/code.rt:23:1
 returns : tie.Need-returns
 returns c =
     let d = c .before .before .before in
     let s = d .before .before .before in
     coded-broken _ _ (s .pre .0) _ _ _ (verdict-refuses _ _ (s .pre .0) (d .decide .ensures) _ _ (c .before .verdict .given .1))
 
--- src/code.rt:23:1
-same-length : tie.Need-same-length
-same-length c = search needs
-
--- src/code.rt:23:1
 returns-2 : tie.Need-returns-2
 returns-2 c =
     let w = c .before .before .before .before .before in
@@ -62,11 +34,6 @@ returns-2 c =
     let k = verdict-makes _ _ (s .pre .0) (d .decide .ensures) (below-all 256 (s .args .bytes .now) (λ i h. omega (arith, b .shared-slice-known .given i))) (t .enum-told .given .1) in
     coded-length _ (s .args .out .now) (k .0) (k .1 .permitted) (k .2) (s .pre .1) _ _ _ _ (w .write-list .ensures .0 (k .0) (k .1), w .write-list .ensures .1 (k .0) (k .1)) (c .before .written .given .1)
 
--- src/code.rt:23:1
-same-length-2 : tie.Need-same-length-2
-same-length-2 c = search needs
-
--- src/code.rt:23:1
 returns-3 : tie.Need-returns-3
 returns-3 c =
     let w = c .before .before .before .before .before in
@@ -81,14 +48,14 @@ pub code-of-list-spec : {M : Type 1} → statement M
 code-of-list-spec =
     tie.close
     (tie.spec
-    decide-requires
-    enum-known-verdict
+    (λ c κs. search needs)
+    (λ c. search needs)
     enum-told
     write-list-requires
-    enum-known-written
-    enum-known-written-2
+    (λ c. search needs)
+    (λ c. search needs)
     returns
-    same-length
+    (λ c. search needs)
     returns-2
-    same-length-2
+    (λ c. search needs)
     returns-3)

@@ -8,25 +8,10 @@ use Rattle.composite.proofs.Made.{count-is}
 use borrow.Author.Needs.{needs}
 use Rattle.composite.proofs.gather.from_code.Statement.{statement}
 use Rattle.composite.proofs.gather.from_code.Tie as tie
-use Rattle.composite.proofs.gather.from_code.Reads as reads
-use Rattle.composite.proofs.gather.from_code.Lts as lts
-use Rattle.composite.proofs.bodies.made.Reads as made-reads
-use Rattle.composite.proofs.gather.rows_behind.Reads as rows-behind-reads
-use Rattle.iscc.proofs.tables.unit_set.Reads as unit-set-reads
 
--- src/gather.rt:97:9
-unit-set-requires : tie.Need-unit-set-requires
-unit-set-requires c κs = search needs
-
--- src/gather.rt:98:9
 rows-behind-requires : tie.Need-rows-behind-requires
 rows-behind-requires c κs = (c .unit-set .ensures .1, omega (arith, count-is _ _ (c .unit-set .ensures .0)))
 
--- src/gather.rt:99:5
-made-requires : tie.Need-made-requires
-made-requires c κs = search needs
-
--- src/gather.rt:93:1
 returns : tie.Need-returns
 returns c =
     let a = c .before .before .before .before .args in
@@ -35,4 +20,4 @@ returns c =
     (c .before .rows-behind .ensures ∙ ap (λ (m : ℕ). rows (λ i. take 8 (drop (2 + i * 8) (a .bytes .now))) m 5) (count-is _ _ (c .before .before .unit-set .ensures .0)))
 
 pub from-code-spec : {M : Type 1} → statement M
-from-code-spec = tie.close (tie.spec unit-set-requires rows-behind-requires made-requires returns)
+from-code-spec = tie.close (tie.spec (λ c κs. search needs) rows-behind-requires (λ c κs. search needs) returns)

@@ -8,37 +8,12 @@ use Rattle.composite.proofs.Made.{units-there, list-made}
 use borrow.Author.Needs.{needs}
 use Rattle.composite.proofs.gather.from_list.Statement.{statement}
 use Rattle.composite.proofs.gather.from_list.Tie as tie
-use Rattle.composite.proofs.gather.from_list.Reads as reads
-use Rattle.composite.proofs.gather.from_list.Lts as lts
-use Rattle.composite.proofs.bodies.made.Reads as made-reads
-use Rattle.composite.proofs.gather.rows_of.Reads as rows-of-reads
-use Rattle.composite.proofs.gather.set_number.Reads as set-number-reads
-use Rattle.composite.proofs.gather.subtype_of.Reads as subtype-of-reads
-use Rattle.iscc.proofs.tables.unit_set.Reads as unit-set-reads
 
--- src/gather.rt:72:9
-set-number-requires : tie.Need-set-number-requires
-set-number-requires c κs = search needs
-
--- src/gather.rt:73:9
-unit-set-requires : tie.Need-unit-set-requires
-unit-set-requires c κs = search needs
-
--- src/gather.rt:74:9
 rows-of-requires : tie.Need-rows-of-requires
 rows-of-requires c κs =
     let k = c .before .before .before .before .pre in
     (c .unit-set .ensures .1, λ i h. units-there _ _ (k .0) (k .1) _ (c .unit-set .ensures .0 ∙ ap (λ (n : ℕ). unitSetAs (setOf n)) (c .before .set-number .ensures .0)) i h)
 
--- src/gather.rt:75:26
-subtype-of-requires : tie.Need-subtype-of-requires
-subtype-of-requires c κs = search needs
-
--- src/gather.rt:75:5
-made-requires : tie.Need-made-requires
-made-requires c κs = search needs
-
--- src/gather.rt:67:1
 returns : tie.Need-returns
 returns c = λ m k.
     let n = c .before .before .before .before .set-number .ensures .0 in
@@ -51,9 +26,9 @@ pub from-list-spec : {M : Type 1} → statement M
 from-list-spec =
     tie.close
     (tie.spec
-    set-number-requires
-    unit-set-requires
+    (λ c κs. search needs)
+    (λ c κs. search needs)
     rows-of-requires
-    subtype-of-requires
-    made-requires
+    (λ c κs. search needs)
+    (λ c κs. search needs)
     returns)

@@ -1,6 +1,6 @@
 -- `rows_of` meets its contract: the rows up to i are filled. Assumes nothing.
 use borrow.Author.Needs.{needs}
-use Prim.Native.Nat.{ℕ, _+_, _*_, _-_, _≤_}
+use Prim.Native.Nat.{ℕ, _+_, _-_, _≤_}
 use mathlib.Core.Path.{_≡_, refl, _∙_, ap, subst⁻¹}
 use mathlib.Core.List.{List}
 use native.Mathlib.Omega.{arith}
@@ -10,10 +10,6 @@ use Rattle.composite.specs.Bodies.{rows, placeIn}
 use Rattle.composite.proofs.Parts.{row-filled}
 use Rattle.composite.proofs.gather.rows_of.Statement.{statement}
 use Rattle.composite.proofs.gather.rows_of.Tie as tie
-use Rattle.composite.proofs.gather.rows_of.Reads as reads
-use Rattle.composite.proofs.gather.rows_of.Lts as lts
-use Rattle.composite.proofs.bodies.eight.Reads as eight-reads
-use Rattle.iscc.proofs.main_type.MainType.number.Reads as number-reads
 
 abbrev body : List ℕ → List ℕ → List MainType → ℕ → List ℕ
 body bytes places units j = take 8 (drop (placeIn places units j) bytes)
@@ -24,59 +20,19 @@ Inv-loop bytes places count units rows₀ i₀ out i = (i ≤ count) × (out ≡
 abbrev μ-loop : tie.MeasureT-loop
 μ-loop bytes places count units rows₀ i₀ out i = count - i
 
--- src/gather.rt:57:5
 loop-holds : tie.Need-loop-holds Inv-loop μ-loop
 unfolding rows
 loop-holds c = (omega arith, refl)
 
--- src/gather.rt:58:22
-mul-number : tie.Need-mul-number Inv-loop μ-loop
-mul-number c = search needs
-
--- src/gather.rt:58:22
-array-copy-out-number : tie.Need-array-copy-out-number Inv-loop μ-loop
-array-copy-out-number c = search needs
-
--- src/gather.rt:58:22
-number-requires : tie.Need-number-requires Inv-loop μ-loop
-number-requires c κs = search needs
-
--- src/gather.rt:58:22
-cast-number : tie.Need-cast-number Inv-loop μ-loop
-cast-number c = search needs
-
--- src/gather.rt:59:18
-mul-at : tie.Need-mul-at Inv-loop μ-loop
-mul-at c = search needs
-
--- src/gather.rt:59:18
 array-read-at : tie.Need-array-read-at Inv-loop μ-loop
 array-read-at c = omega (arith, c .number .ensures, c .before .before .before .before .before .before .pre .1 (c .before .before .before .loop .i) (omega arith) .0)
 
--- src/gather.rt:60:19
 eight-requires : tie.Need-eight-requires Inv-loop μ-loop
 eight-requires c κs =
     let a = c .before .before .before .before .before .before .args in
     subst⁻¹ (λ (m : ℕ). getD (a .t2) m 0 + 8 ≤ length (a .bytes .now)) (c .number .ensures)
     (c .before .before .before .before .before .before .pre .1 (c .before .before .before .loop .i) (omega arith) .1)
 
--- src/gather.rt:60:9
-mul-rows : tie.Need-mul-rows Inv-loop μ-loop
-mul-rows c = search needs
-
--- src/gather.rt:60:9
-array-set-from-rows : tie.Need-array-set-from-rows Inv-loop μ-loop
-array-set-from-rows c = search needs
-
--- src/gather.rt:61:9
-add-i : tie.Need-add-i Inv-loop μ-loop
-add-i c = search needs
-
--- src/gather.rt:57:5
-loop-less : tie.Need-loop-less Inv-loop μ-loop
-loop-less c = search needs
-
--- src/gather.rt:57:5
 loop-again : tie.Need-loop-again Inv-loop μ-loop
 loop-again c =
     let a = c .before .before .before .before .before .before .before .args in
@@ -86,7 +42,6 @@ loop-again c =
           (c .eight .ensures ∙ ap (λ (m : ℕ). take 8 (drop (getD (a .t2) m 0) (a .bytes .now))) (c .before .number .ensures)),
     )
 
--- src/gather.rt:49:1
 returns : tie.Need-returns Inv-loop μ-loop
 returns c =
     let a = c .before .before .before .before .args in
@@ -100,16 +55,16 @@ rows-of-spec =
     Inv-loop
     μ-loop
     loop-holds
-    mul-number
-    array-copy-out-number
-    number-requires
-    cast-number
-    mul-at
+    (λ c. search needs)
+    (λ c. search needs)
+    (λ c κs. search needs)
+    (λ c. search needs)
+    (λ c. search needs)
     array-read-at
     eight-requires
-    mul-rows
-    array-set-from-rows
-    add-i
-    loop-less
+    (λ c. search needs)
+    (λ c. search needs)
+    (λ c. search needs)
+    (λ c. search needs)
     loop-again
     returns)

@@ -9,29 +9,10 @@ use Rattle.composite.proofs.Joins.{refused-into, listed-of, read-refuse
 use borrow.Author.Needs.{needs}
 use Rattle.composite.proofs.join.join.Statement.{statement}
 use Rattle.composite.proofs.join.join.Tie as tie
-use Rattle.composite.proofs.join.join.Reads as reads
-use Rattle.composite.proofs.join.join.Lts as lts
-use Rattle.composite.proofs.join.join_list.Reads as join-list-reads
-use Rattle.composite.proofs.join.single.Reads as single-reads
-use Rattle.units.proofs.reader.read.Reads as read-reads
 
--- src/join.rt:58:9
-read-requires : tie.Need-read-requires
-read-requires c κs = search needs
-
--- src/join.rt:62:26
-enum-known-answer : tie.Need-enum-known-answer
-enum-known-answer c = search needs
-
--- src/join.rt:64:16
 enum-told : tie.Need-enum-told
 enum-told c = search needs
 
--- src/join.rt:65:41
-single-requires : tie.Need-single-requires
-single-requires c κs = search needs
-
--- src/join.rt:65:17
 returns : tie.Need-returns
 returns c =
     let t = c .before .before .before in
@@ -40,25 +21,18 @@ returns c =
     let i = listed-of _ (r .read .ensures .0) _ (r .read .ensures .1) (t .enum-told .given .1) in
     refused-into _ (s .args .out .now) _ (joins-one _ _ i (c .before .if1 .taken) ∙ ap refuse (sym (c .single .ensures)))
 
--- src/join.rt:67:13
 join-list-requires : tie.Need-join-list-requires
 join-list-requires c κs =
     let t = c .before .before .before in
     let r = t .before .before .before in
     listed-of _ (r .read .ensures .0) _ (r .read .ensures .1) (t .enum-told .given .1)
 
--- src/join.rt:54:1
 returns-2 : tie.Need-returns-2
 returns-2 c =
     let r = c .before .before .before .before in
     let s = r .before .before .before in
     refused-into _ (s .args .out .now) _ (join-refused _ _ (read-refused _ (r .read .ensures .0) _ _ (c .before .answer .given .1) .0))
 
--- src/join.rt:54:1
-same-length : tie.Need-same-length
-same-length c = search needs
-
--- src/join.rt:54:1
 returns-3 : tie.Need-returns-3
 returns-3 c =
     let w = c .before .before in
@@ -74,12 +48,12 @@ pub join-spec : {M : Type 1} → statement M
 join-spec =
     tie.close
     (tie.spec
-    read-requires
-    enum-known-answer
+    (λ c κs. search needs)
+    (λ c. search needs)
     enum-told
-    single-requires
+    (λ c κs. search needs)
     returns
     join-list-requires
     returns-2
-    same-length
+    (λ c. search needs)
     returns-3)

@@ -11,24 +11,10 @@ use Rattle.composite.proofs.Joins.{verdict-refuses, verdict-makes, refu
 use borrow.Author.Needs.{needs}
 use Rattle.composite.proofs.join.join_list.Statement.{statement}
 use Rattle.composite.proofs.join.join_list.Tie as tie
-use Rattle.composite.proofs.join.join_list.Reads as reads
-use Rattle.composite.proofs.join.join_list.Lts as lts
-use Rattle.composite.proofs.join.write_list.Reads as write-list-reads
-use Rattle.units.proofs.verdict.decide.Reads as decide-reads
 
--- src/join.rt:36:9
-decide-requires : tie.Need-decide-requires
-decide-requires c κs = search needs
-
--- src/join.rt:38:26
-enum-known-verdict : tie.Need-enum-known-verdict
-enum-known-verdict c = search needs
-
--- src/join.rt:39:55
 enum-told : tie.Need-enum-told
 enum-told c = search needs
 
--- src/join.rt:39:31
 write-list-requires : tie.Need-write-list-requires
 write-list-requires c κs =
     let d = c .before .before .before in
@@ -37,18 +23,12 @@ write-list-requires c κs =
     let k = verdict-makes _ _ (s .pre) (d .decide .ensures) (below-all 256 (s .args .bytes .now) (λ i h. omega (arith, b .shared-slice-known .given i))) (c .before .enum-told .given .1) in
     (k .0, k .1)
 
--- src/join.rt:31:1
 returns : tie.Need-returns
 returns c =
     let d = c .before .before .before in
     let s = d .before .before .before in
     refused-into _ (s .args .out .now) _ (verdict-refuses _ _ (s .pre) (d .decide .ensures) _ _ (c .before .verdict .given .1) .0)
 
--- src/join.rt:31:1
-same-length : tie.Need-same-length
-same-length c = search needs
-
--- src/join.rt:31:1
 returns-2 : tie.Need-returns-2
 returns-2 c =
     let w = c .before .before in
@@ -65,10 +45,10 @@ pub join-list-spec : {M : Type 1} → statement M
 join-list-spec =
     tie.close
     (tie.spec
-    decide-requires
-    enum-known-verdict
+    (λ c κs. search needs)
+    (λ c. search needs)
     enum-told
     write-list-requires
     returns
-    same-length
+    (λ c. search needs)
     returns-2)

@@ -9,26 +9,12 @@ use Rattle.composite.proofs.Joins.{makes-sound, makes-bytes}
 use borrow.Author.Needs.{needs}
 use Rattle.composite.proofs.join.write_list.Statement.{statement}
 use Rattle.composite.proofs.join.write_list.Tie as tie
-use Rattle.composite.proofs.join.write_list.Reads as reads
-use Rattle.composite.proofs.join.write_list.Lts as lts
-use Rattle.composite.proofs.gather.from_list.Reads as from-list-reads
-use Rattle.composite.proofs.writer.write.Reads as write-reads
 
--- src/join.rt:26:9
-from-list-requires : tie.Need-from-list-requires
-from-list-requires c κs = search needs
-
--- src/join.rt:27:5
 write-requires : tie.Need-write-requires
 write-requires c κs =
     let p = c .before .before .before .before .pre in
     makes-sound _ _ (p .0) (p .1) _ (c .before .from-list .ensures (p .0) (p .1))
 
--- src/join.rt:21:1
-same-length : tie.Need-same-length
-same-length c = search needs
-
--- src/join.rt:21:1
 returns : tie.Need-returns
 returns c =
     let f = c .before .before .before .before in
@@ -39,4 +25,4 @@ returns c =
     )
 
 pub write-list-spec : {M : Type 1} → statement M
-write-list-spec = tie.close (tie.spec from-list-requires write-requires same-length returns)
+write-list-spec = tie.close (tie.spec (λ c κs. search needs) write-requires (λ c. search needs) returns)

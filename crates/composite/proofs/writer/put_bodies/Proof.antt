@@ -8,9 +8,6 @@ use lib.ListN.{length, getD}
 use Rattle.composite.proofs.Parts.{Laid, none-laid, more-laid, all-laid}
 use Rattle.composite.proofs.writer.put_bodies.Statement.{statement}
 use Rattle.composite.proofs.writer.put_bodies.Tie as tie
-use Rattle.composite.proofs.writer.put_bodies.Reads as reads
-use Rattle.composite.proofs.writer.put_bodies.Lts as lts
-use Rattle.composite.proofs.bodies.put.Reads as put-reads
 
 abbrev row : List (List ℕ) → ℕ → List ℕ
 row rows j = getD rows j []

@@ -3,15 +3,9 @@ use Prim.Native.Nat.{_-_, _<_, _^_}
 use lib.ListN.{length}
 use borrow.Author.Needs.{needs}
 use native.Mathlib.Omega.{arith}
-use Rattle.iscc.proofs.Digits.{below-all}
 use Rattle.units.proofs.Reached.{Running, starts, refuses, Turn, turn}
 use Rattle.units.proofs.reader.read.Statement.{statement}
 use Rattle.units.proofs.reader.read.Tie as tie
-use Rattle.units.proofs.reader.read.Reads as reads
-use Rattle.units.proofs.reader.read.Lts as lts
-use Rattle.unit.proofs.reader.read.Reads as read-reads
-use Rattle.units.proofs.summary.add.Reads as add-reads
-use Rattle.units.proofs.summary.empty.Reads as empty-reads
 
 abbrev Inv-loop : tie.InvT-loop
 Inv-loop bytes list₀ at₀ list at = Running bytes list at
@@ -28,10 +22,7 @@ returns c = refuses _ _ _ (c .before .before .before .before .before .loop .inv)
 -- what a unit that was found says of this turn
 this : (c : tie.After-found2 Inv-loop μ-loop)
     → Turn (c .before .before .before .before .before .before .before .args .bytes .now) (c .before .before .before .before .loop .list) (c .before .before .before .before .loop .at) (c .found2 .given .0 .0)
-this c =
-    let l = c .before .before .before .before in
-    turn _ _ _ (l .loop .inv) (c .before .before .read .ensures) _ (c .found2 .given .1)
-    (below-all 256 (l .before .before .before .args .bytes .now) (λ i h. omega (arith, l .before .before .shared-slice-known .given i)))
+this c = turn _ _ _ (c .before .before .before .before .loop .inv) (c .before .before .read .ensures) _ (c .found2 .given .1)
 
 long : (c : tie.After-found2 Inv-loop μ-loop) → length (c .before .before .before .before .before .before .before .args .bytes .now) < 2 ^ 64
 long c = omega arith

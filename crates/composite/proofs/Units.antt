@@ -1,0 +1,323 @@
+-- A composite as its units. Assumes nothing.
+use Prim.Native.Nat.{ℕ, _+_, _-_, _*_, _≤_, _<_}
+use mathlib.Core.Path.{_≡_, refl, sym, _∙_, ap, ap₂, subst, subst⁻¹}
+use mathlib.Core.Bool.{Bool, true, false, cond, false≢true}
+use mathlib.Core.Option.{Option, none, some}
+use mathlib.Core.List.{List, [], _++_, append-assoc, append-nil}
+use native.Mathlib.Omega.{arith}
+use lib.ListN.{length, take, drop, getD, length-append, length-drop, drop-of-length-le}
+use lib.Seq.{take-all, drop-drop}
+use lib.Dec.{eqb, lit<}
+use borrow.Author.Tests.{lt-ltb, le-leb, lt-leb, leb-true}
+use Rattle.iscc.specs.Refusals.{Refusal, notPermitted, bytesLeftOver}
+use Rattle.iscc.specs.Answer.{Answer, accept, refuse, _>>=_, areaAfter}
+use Rattle.iscc.specs.Digits.{Below}
+use Rattle.iscc.specs.Header.{headerBytes}
+use Rattle.iscc.specs.Permitted.{MainType, ISCC, number, typeOf, mainTypeOf, isUnit, Set, sets, setOf, setNumber, unitTypes, unitCount, compositeSubtype, row, permits, bodyBytes}
+use Rattle.iscc.specs.Meaning.{composite, Permitted}
+use Rattle.iscc.specs.Item.{Item, itemBytes, readItem, readOne, unitBytes, writeUnit, compositeOf, meaningAs, meaningOf}
+use Rattle.iscc.specs.Items.{unitsOf, itemsBytes, splitBytes}
+use Rattle.iscc.specs.Forms.{unitSetAs}
+use Rattle.iscc.specs.declared.main_type.MainType as code
+use Rattle.iscc.specs.declared.tables.UnitSet.{UnitSet}
+use Rattle.iscc.proofs.Header.{length-short}
+use Rattle.iscc.proofs.Permitted.{number-type, number-back, count-most, small}
+use Rattle.iscc.proofs.Item.{PermittedItem, item-read}
+use Rattle.iscc.proofs.Split.{unitsIn}
+use Rattle.iscc.proofs.Meaning.{meant-item}
+use Rattle.units.specs.Summary.{isSubtyped}
+use Rattle.unit.specs.Forms.{headerOf}
+use Rattle.unit.specs.declared.reader.Unit.{Unit}
+use Rattle.unit.proofs.Bounds.{UnitIs, itemFrom}
+use Rattle.unit.proofs.Table.{seven}
+use Rattle.composite.specs.declared.bodies.Composite.{Composite}
+use Rattle.composite.specs.Bodies.{parts, rows, laid, compositeAs}
+use Rattle.composite.specs.Code.{Sound, unitOf, unitAt, splitInto}
+use Rattle.units.proofs.Reached.{rest-is}
+use Rattle.composite.proofs.Parts.{laid-length, laid-same, rows-same}
+use Rattle.composite.proofs.Made.{All, all-at, five}
+use Rattle.composite.proofs.Bytes.{sound-of}
+
+-- ---- one unit of 64 bits
+
+-- the table's row of a unit that a composite has
+pub record UnitRow (n s : ℕ) : Type 0 where
+  pub single : isUnit (typeOf n) ≡ true
+  pub permitted : permits (typeOf n) (cond (isSubtyped n) s 0) 0 1 ≡ true
+  pub eight : bodyBytes (typeOf n) (cond (isSubtyped n) s 0) 1 ≡ 8
+
+unit-row : (s n : ℕ) → n < 7 → n < 5 → (isSubtyped n ≡ true → s ≤ 4) → UnitRow n s
+unfolding typeOf row bodyBytes
+unit-row s =
+    seven (λ n. n < 5 → (isSubtyped n ≡ true → s ≤ 4) → UnitRow n s)
+    (λ h f. record { single = refl; permitted = refl; eight = refl })
+    (λ h f. record { single = refl; permitted = rw (le-leb s 4 (f refl)); eight = refl })
+    (λ h f. record { single = refl; permitted = rw (le-leb s 4 (f refl)); eight = refl })
+    (λ h f. record { single = refl; permitted = refl; eight = refl })
+    (λ h f. record { single = refl; permitted = refl; eight = refl })
+    (λ h f. absurd (omega arith))
+    (λ h f. absurd (omega arith))
+
+pub unit-there : (s n : ℕ) → n < 5 → (isSubtyped n ≡ true → s ≤ 4) → UnitRow n s
+unit-there s n h f = unit-row s n (omega arith) h f
+
+module _ (m : code.MainType) (s : ℕ) (body d : List ℕ) (h : m .number < 5) (f : isSubtyped (m .number) ≡ true → s ≤ 4) (l : length body ≡ 8) where
+  abbrev own : ℕ
+  own = cond (isSubtyped (m .number)) s 0
+
+  abbrev there : UnitRow (m .number) s
+  there = unit-there s (m .number) h f
+
+  named : mainTypeOf (m .number) ≡ accept (typeOf (m .number))
+  unfolding mainTypeOf
+  named = rw (lt-ltb (m .number) 7 (omega arith))
+
+  pub unit-length : length (itemBytes (unitOf (m .number) s body)) ≡ 10
+  unfolding itemBytes
+  unit-length =
+      let p = small (typeOf (m .number)) own 0 1 (there .permitted) in
+      let k : number (typeOf (m .number)) ≡ m .number = number-type (m .number) (omega arith) in
+      let e : length (headerBytes (record { mainType = number (typeOf (m .number)); subtype = own; version = 0; lengthNo = 1 })) ≡ 2 =
+      length-short (record { mainType = number (typeOf (m .number)); subtype = own; version = 0; lengthNo = 1 }) (omega arith) (omega (arith, p .subtype)) (omega arith) (omega arith) in
+      length-append (headerBytes (record { mainType = number (typeOf (m .number)); subtype = own; version = 0; lengthNo = 1 })) body ∙ omega (arith, e, l)
+
+  bytes-are : unitBytes (headerOf m own 0 1) body ≡ accept (itemBytes (unitOf (m .number) s body))
+  unfolding unitBytes itemBytes
+  bytes-are =
+      let k : number (typeOf (m .number)) ≡ m .number = number-type (m .number) (omega arith) in
+      let t : take 8 body ≡ body = take-all 8 body (omega arith) in
+      rw (named, there .single, there .permitted, there .eight, l, t, k)
+
+  -- what the unit writer leaves of a part that holds the unit
+  pub unit-written : 10 ≤ length d → areaAfter (writeUnit (headerOf m own 0 1) body (length d)) d ≡ itemBytes (unitOf (m .number) s body) ++ drop 10 d
+  unit-written g =
+      let w : writeUnit (headerOf m own 0 1) body (length d) ≡ accept (itemBytes (unitOf (m .number) s body)) =
+      rw (bytes-are, unit-length, le-leb 10 (length d) g) in
+      ap (λ (r : Answer (List ℕ)). areaAfter r d) w ∙ ap (λ (k : ℕ). itemBytes (unitOf (m .number) s body) ++ drop k d) unit-length
+
+-- what `unit_subtype` returns
+module _ (n s : ℕ) (r : Bool) (e : r ≡ eqb n 1) where
+  pub own-first : r ≡ true → s ≡ cond (isSubtyped n) s 0
+  own-first h = rw (← e, h)
+
+  module _ (q : Bool) (f : q ≡ eqb n 2) (g : r ≡ false) where
+    pub own-second : q ≡ true → s ≡ cond (isSubtyped n) s 0
+    own-second h = rw (← e, g, ← f, h)
+
+    pub own-none : q ≡ false → 0 ≡ cond (isSubtyped n) s 0
+    own-none h = rw (← e, g, ← f, h)
+
+-- a unit is put at a place of an area
+pub unit-put : (m : code.MainType) (s k : ℕ) (body out e : List ℕ) (at : ℕ) → k ≡ cond (isSubtyped (m .number)) s 0 → m .number < 5 → (isSubtyped (m .number) ≡ true → s ≤ 4) → length body ≡ 8
+    → at + 10 ≤ length out
+    → e ≡ areaAfter (writeUnit (headerOf m k 0 1) body (length (take (length out - at) (drop at out)))) (take (length out - at) (drop at out))
+    → take at out ++ (e ++ drop (length out - at) (drop at out)) ≡ take at out ++ (itemBytes (unitOf (m .number) s body) ++ drop (at + 10) out)
+unit-put m s k body out e at ek h f l g ee =
+    let d : List ℕ = drop at out in
+    let u : List ℕ = itemBytes (unitOf (m .number) s body) in
+    let n : length d ≡ length out - at = length-drop at out in
+    let e′ : e ≡ u ++ drop 10 d =
+    ee ∙ ap (λ (x : List ℕ). areaAfter (writeUnit (headerOf m k 0 1) body (length x)) x) (rest-is out at)
+    ∙ ap (λ (x : ℕ). areaAfter (writeUnit (headerOf m x 0 1) body (length d)) d) ek
+    ∙ unit-written m s body d h f l (omega arith) in
+    let z : drop (length out - at) d ≡ [] = drop-of-length-le d {i = length out - at} (omega arith) in
+    ap₂ (λ (x y : List ℕ). take at out ++ (x ++ y)) e′ z ∙ ap (λ (x : List ℕ). take at out ++ x) (append-nil (u ++ drop 10 d) ∙ ap (λ (x : List ℕ). u ++ x) (drop-drop 10 at out))
+
+-- ---- the units of a sound composite
+
+abbrev Ok : ℕ → code.MainType → Type 0
+Ok s m = (m .number < 5) × (isSubtyped (m .number) ≡ true → s ≤ 4)
+
+no : (s : ℕ) → false ≡ true → s ≤ 4
+no s e = absurd (false≢true e)
+
+all-ok : (s : ℕ) (a b c : Bool) → compositeSubtype (setNumber (record { meta = a; semantic = b; content = c })) s ≡ true
+    → All (Ok s) (take (unitCount (record { meta = a; semantic = b; content = c })) (unitSetAs (record { meta = a; semantic = b; content = c }) .units))
+unfolding unitSetAs unitTypes compositeSubtype
+all-ok s true true true e = let k : s ≤ 4 = leb-true s 4 e in ((lit< tt, no s), ((lit< tt, λ _. k), ((lit< tt, λ _. k), ((lit< tt, no s), ((lit< tt, no s), tt)))))
+all-ok s true true false e = let k : s ≤ 4 = leb-true s 4 e in ((lit< tt, no s), ((lit< tt, λ _. k), ((lit< tt, no s), ((lit< tt, no s), tt))))
+all-ok s true false true e = let k : s ≤ 4 = leb-true s 4 e in ((lit< tt, no s), ((lit< tt, λ _. k), ((lit< tt, no s), ((lit< tt, no s), tt))))
+all-ok s true false false e = ((lit< tt, no s), ((lit< tt, no s), ((lit< tt, no s), tt)))
+all-ok s false true true e = let k : s ≤ 4 = leb-true s 4 e in ((lit< tt, λ _. k), ((lit< tt, λ _. k), ((lit< tt, no s), ((lit< tt, no s), tt))))
+all-ok s false true false e = let k : s ≤ 4 = leb-true s 4 e in ((lit< tt, λ _. k), ((lit< tt, no s), ((lit< tt, no s), tt)))
+all-ok s false false true e = let k : s ≤ 4 = leb-true s 4 e in ((lit< tt, λ _. k), ((lit< tt, no s), ((lit< tt, no s), tt)))
+all-ok s false false false e = ((lit< tt, no s), ((lit< tt, no s), tt))
+
+module _ (c : Composite) (ok : Sound c) where
+  abbrev set : Set
+  set = setOf (c .length)
+
+  unit-ok : (i : ℕ) → i < unitCount set → Ok (c .subtype) (getD (unitSetAs set .units) i (record { number = 0 }))
+  unit-ok i h =
+      all-at (Ok (c .subtype)) (unitCount set) (unitSetAs set .units) i (record { number = 0 })
+      (all-ok (c .subtype) (set .meta) (set .semantic) (set .content) (ap (λ (l : ℕ). compositeSubtype l (c .subtype)) (number-back (c .length) (ok .number)) ∙ ok .subtype))
+      h (five (set .meta) (set .semantic) (set .content))
+
+  pub unit-long : (i : ℕ) → i < unitCount set → length (itemBytes (unitAt c i)) ≡ 10
+  unfolding unitAt
+  unit-long i h =
+      let m : unitCount set ≤ 5 = count-most set in
+      let k = unit-ok i h in
+      unit-length (getD (unitSetAs set .units) i (record { number = 0 })) (c .subtype) (getD (c .bodies) i []) [] (k .0) (k .1) (ok .bodies i (omega arith))
+
+  pub split-length : length (splitInto c) ≡ unitCount set * 10
+  unfolding splitInto
+  split-length = laid-length (λ i. itemBytes (unitAt c i)) 10 (unitCount set) unit-long
+
+  -- with the table's set and the rows in the code's hands
+  module _ (u : UnitSet) (eu : u ≡ unitSetAs set) (rs : List (List ℕ)) (er : rs ≡ c .bodies) where
+    count-of : u .count ≡ unitCount set
+    unfolding unitSetAs
+    count-of = ap (λ (x : UnitSet). x .count) eu
+
+    pub code-ok : (i : ℕ) → i < u .count → Ok (c .subtype) (getD (u .units) i (record { number = 0 }))
+    code-ok i h = subst⁻¹ (λ (x : UnitSet). Ok (c .subtype) (getD (x .units) i (record { number = 0 }))) eu (unit-ok i (omega (arith, count-of)))
+
+    pub same-unit : (i : ℕ) → itemBytes (unitOf (getD (u .units) i (record { number = 0 }) .number) (c .subtype) (getD rs i [])) ≡ itemBytes (unitAt c i)
+    unfolding unitAt
+    same-unit i =
+        ap (λ (x : UnitSet). itemBytes (unitOf (getD (x .units) i (record { number = 0 }) .number) (c .subtype) (getD rs i []))) eu
+        ∙ ap (λ (x : List (List ℕ)). itemBytes (unitOf (getD (unitSetAs set .units) i (record { number = 0 }) .number) (c .subtype) (getD x i []))) er
+
+    pub code-long : (i : ℕ) → i < u .count → length (itemBytes (unitOf (getD (u .units) i (record { number = 0 }) .number) (c .subtype) (getD rs i []))) ≡ 10
+    code-long i h = ap length (same-unit i) ∙ unit-long i (omega (arith, count-of))
+
+    pub code-units : (d area : List ℕ) → area ≡ laid (λ i. itemBytes (unitOf (getD (u .units) i (record { number = 0 }) .number) (c .subtype) (getD rs i []))) (u .count) ++ drop (u .count * 10) d
+        → area ≡ laid (λ i. itemBytes (unitAt c i)) (u .count) ++ drop (u .count * 10) d
+    code-units d area e = e ∙ ap (λ (x : List ℕ). x ++ drop (u .count * 10) d) (laid-same _ _ same-unit (u .count))
+
+    pub split-size : length (splitInto c) ≡ u .count * 10
+    split-size = split-length ∙ ap (λ (k : ℕ). k * 10) (sym count-of)
+
+    pub split-area : (d area : List ℕ) → area ≡ laid (λ i. itemBytes (unitAt c i)) (u .count) ++ drop (u .count * 10) d → area ≡ areaAfter (accept (splitInto c)) d
+    unfolding splitInto
+    split-area d area e =
+        e ∙ ap (λ (k : ℕ). laid (λ i. itemBytes (unitAt c i)) k ++ drop (k * 10) d) count-of
+        ∙ ap (λ (k : ℕ). laid (λ i. itemBytes (unitAt c i)) (unitCount set) ++ drop k d) (sym (laid-length (λ i. itemBytes (unitAt c i)) 10 (unitCount set) unit-long))
+
+-- ---- a composite's bytes as its units
+
+module _ (s v : ℕ) (da ins : List ℕ) where
+  split-laid : (me se co : Option (List ℕ)) → itemsBytes (unitsIn s me se co da ins) ≡ splitInto (compositeAs (composite s v me se co da ins))
+  unfolding itemsBytes splitInto unitAt compositeAs laid rows unitSetAs unitTypes setOf sets typeOf
+  split-laid (some x) (some y) (some z) = simp (append-assoc, append-nil)
+  split-laid (some x) (some y) none = simp (append-assoc, append-nil)
+  split-laid (some x) none (some z) = simp (append-assoc, append-nil)
+  split-laid (some x) none none = simp (append-assoc, append-nil)
+  split-laid none (some y) (some z) = simp (append-assoc, append-nil)
+  split-laid none (some y) none = simp (append-assoc, append-nil)
+  split-laid none none (some z) = simp (append-assoc, append-nil)
+  split-laid none none none = simp (append-assoc, append-nil)
+
+-- the bodies behind a composite's header, by the eight sets
+last-eight : (k : ℕ) (bs : List ℕ) → length bs ≡ k + 8 → take 8 (drop k bs) ≡ drop k bs
+last-eight k bs e = take-all 8 (drop k bs) (omega (arith, length-drop k bs))
+
+rows-in : (s v : ℕ) (a b c : Bool) (bs : List ℕ) → length bs ≡ unitCount (record { meta = a; semantic = b; content = c }) * 8
+    → compositeAs (compositeOf s v (record { meta = a; semantic = b; content = c }) bs)
+    ≡ parts (setNumber (record { meta = a; semantic = b; content = c })) s (rows (λ i. take 8 (drop (i * 8) bs)) (unitCount (record { meta = a; semantic = b; content = c })) 5)
+unfolding compositeAs compositeOf rows
+rows-in s v true true true bs n = simp (drop-drop) (rw (last-eight 32 bs n))
+rows-in s v true true false bs n = simp (drop-drop) (rw (last-eight 24 bs n))
+rows-in s v true false true bs n = simp (drop-drop) (rw (last-eight 24 bs n))
+rows-in s v true false false bs n = simp (drop-drop) (rw (last-eight 16 bs n))
+rows-in s v false true true bs n = simp (drop-drop) (rw (last-eight 24 bs n))
+rows-in s v false true false bs n = simp (drop-drop) (rw (last-eight 16 bs n))
+rows-in s v false false true bs n = simp (drop-drop) (rw (last-eight 16 bs n))
+rows-in s v false false false bs n = rw (last-eight 8 bs n)
+
+-- ---- split
+
+other-type : (s v l : ℕ) (body : List ℕ) (n : ℕ) → n < 7 → eqb n 5 ≡ false → unitsOf (meaningAs (typeOf n) s v l body) ≡ refuse notPermitted
+unfolding typeOf meaningAs unitsOf
+other-type s v l body =
+    seven (λ n. eqb n 5 ≡ false → unitsOf (meaningAs (typeOf n) s v l body) ≡ refuse notPermitted)
+    (λ _. refl) (λ _. refl) (λ _. refl) (λ _. refl) (λ _. refl) (λ e. absurd (false≢true (sym e))) (λ _. refl)
+
+-- the composite of a header's numbers and its body, and the units that it is split into
+abbrev rowed : ℕ → ℕ → List ℕ → Composite
+rowed s l body = parts l s (rows (λ i. take 8 (drop (i * 8) body)) (unitCount (setOf l)) 5)
+
+module _ (s v l : ℕ) (body : List ℕ) (p : PermittedItem (record { mainType = ISCC; subtype = s; version = v; lengthNo = l; body = body })) where
+  abbrev item : Item
+  item = record { mainType = ISCC; subtype = s; version = v; lengthNo = l; body = body }
+
+  small-number : l ≤ 7
+  small-number = small ISCC s v l (p .header) .lengthNo
+
+  body-length : length body ≡ unitCount (setOf l) * 8
+  unfolding bodyBytes
+  body-length = p .body .0
+
+  as-rows : compositeAs (compositeOf s v (setOf l) body) ≡ rowed s l body
+  as-rows =
+      rows-in s v (setOf l .meta) (setOf l .semantic) (setOf l .content) body body-length
+      ∙ ap (λ (n : ℕ). parts n s (rows (λ i. take 8 (drop (i * 8) body)) (unitCount (setOf l)) 5)) (number-back l small-number)
+
+  sound-composite : Permitted (meaningOf item) → Sound (compositeAs (compositeOf s v (setOf l) body))
+  unfolding meaningAs compositeOf
+  sound-composite q = sound-of s v _ _ _ _ _ q
+
+  pub rowed-sound : Sound (rowed s l body)
+  rowed-sound = subst Sound as-rows (sound-composite (meant-item item p))
+
+  units-laid : (unitsOf (meaningOf item) >>= λ is. accept (itemsBytes is)) ≡ accept (splitInto (compositeAs (compositeOf s v (setOf l) body)))
+  unfolding meaningAs compositeOf unitsOf
+  units-laid = ap accept (split-laid s v _ _ _ _ _)
+
+  pub rowed-units : (unitsOf (meaningOf item) >>= λ is. accept (itemsBytes is)) ≡ accept (splitInto (rowed s l body))
+  rowed-units = units-laid ∙ ap (λ (c : Composite). accept (splitInto c)) as-rows
+
+pub split-unread : (bs : List ℕ) (q : Refusal) → readItem bs ≡ refuse q → splitBytes bs ≡ refuse q
+unfolding splitBytes readOne
+split-unread bs q e = rw e
+
+module _ (bs : List ℕ) (u : Unit) (w : UnitIs bs u) where
+  pub split-left : u .used < length bs → splitBytes bs ≡ refuse bytesLeftOver
+  unfolding splitBytes readOne
+  split-left h = rw (w .is, lt-leb (length bs) (u .used) h)
+
+  module _ (h : length bs ≤ u .used) where
+    pub split-other : {t : Bool} → t ≡ eqb (u .«main_type» .number) 5 → t ≡ false → splitBytes bs ≡ refuse notPermitted
+    unfolding splitBytes readOne
+    split-other e f =
+        rw (w .is, le-leb (length bs) (u .used) h)
+        (rw (other-type (u .subtype) (u .version) (u .length) (take (u .used - u .start) (drop (u .start) bs)) (u .«main_type» .number) (omega (arith, w .mainType)) (sym e ∙ f)))
+
+    module _ (five : u .«main_type» .number ≡ 5) where
+      abbrev body : List ℕ
+      body = take (u .used - u .start) (drop (u .start) bs)
+
+      type-is : typeOf (u .«main_type» .number) ≡ ISCC
+      unfolding typeOf
+      type-is = rw five
+
+      body-is : body ≡ drop 2 bs
+      body-is = rw (w .start) (take-all (u .used - 2) (drop 2 bs) (omega (arith, length-drop 2 bs)))
+
+      pub code-room : 2 + unitCount (setOf (u .length)) * 8 ≤ length bs
+      unfolding bodyBytes
+      code-room = omega (arith, rw type-is at (w .size), w .start, w .within)
+
+      abbrev splitRows : Composite
+      splitRows = parts (u .length) (u .subtype) (rows (λ i. take 8 (drop (2 + i * 8) bs)) (unitCount (setOf (u .length))) 5)
+
+      same-rows : rowed (u .subtype) (u .length) body ≡ splitRows
+      same-rows =
+          ap (parts (u .length) (u .subtype))
+          (rows-same (λ i. take 8 (drop (i * 8) body)) (λ i. take 8 (drop (2 + i * 8) bs)) (λ i. ap (take 8) (ap (drop (i * 8)) body-is ∙ drop-drop (i * 8) 2 bs)) (unitCount (setOf (u .length))) 5)
+
+      module _ (k : Below 256 bs) where
+        permitted-is : PermittedItem (record { mainType = ISCC; subtype = u .subtype; version = u .version; lengthNo = u .length; body = body })
+        permitted-is =
+            subst (λ (m : MainType). PermittedItem (record { mainType = m; subtype = u .subtype; version = u .version; lengthNo = u .length; body = body })) type-is
+            (item-read bs (record { result = itemFrom bs u; used = u .used }) k (w .is) .permitted)
+
+        pub split-sound : (c : Composite) → c ≡ splitRows → Sound c
+        split-sound c e = subst⁻¹ Sound (e ∙ sym same-rows) (rowed-sound (u .subtype) (u .version) (u .length) body permitted-is)
+
+        pub split-whole : (c : Composite) → c ≡ splitRows → splitBytes bs ≡ accept (splitInto c)
+        unfolding splitBytes readOne
+        split-whole c e =
+            rw (w .is, le-leb (length bs) (u .used) h, type-is) (rowed-units (u .subtype) (u .version) (u .length) body permitted-is)
+            ∙ ap (λ (x : Composite). accept (splitInto x)) (same-rows ∙ sym e)

@@ -1,0 +1,28 @@
+-- `split` meets its contract. Assumes nothing.
+use mathlib.Core.Path.{_∙_, sym}
+use Rattle.unit.proofs.Bounds.{unit-refused}
+use Rattle.composite.proofs.Joins.{refused-into}
+use Rattle.composite.proofs.Units.{split-unread}
+use borrow.Author.Needs.{needs}
+use Rattle.composite.proofs.split.split.Statement.{statement}
+use Rattle.composite.proofs.split.split.Tie as tie
+
+split-item-requires : tie.Need-split-item-requires
+split-item-requires c κs = sym (c .before .before .before .before .read .ensures) ∙ c .before .before .answer2 .given .1
+
+returns : tie.Need-returns
+returns c =
+    let r = c .before .before .before in
+    refused-into _ (r .before .before .before .args .out .now) _ (split-unread _ _ (unit-refused _ (r .read .ensures) _ (c .before .answer .given .1)))
+
+pub split-spec : {M : Type 1} → statement M
+split-spec =
+    tie.close
+    (tie.spec
+    (λ c κs. search needs)
+    (λ c. search needs)
+    (λ c. search needs)
+    split-item-requires
+    returns
+    (λ c. search needs)
+    (λ c. search needs))

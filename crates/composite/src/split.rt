@@ -1,0 +1,44 @@
+// Splits a composite into its units.
+ghost use mathlib.Core.Path.{_≡_};
+ghost use lib.ListN.{length};
+ghost use Rattle.iscc.specs.Answer.{areaAfter};
+ghost use Rattle.iscc.specs.Item.{readItem};
+ghost use Rattle.iscc.specs.Items as items;
+ghost use Rattle.iscc.specs.Forms.{writtenAs};
+ghost use Rattle.unit.specs.Forms.{unitReadAs};
+ghost use Rattle.unit.specs.declared.reader.UnitRead.the-variants as found;
+use crate::gather;
+use crate::writer;
+use iscc::main_type::MainType;
+use iscc::refusal::Refusal;
+use iscc::written::Written;
+use unit::reader::Unit;
+use unit::reader::UnitRead;
+
+// Splits the item at the front of the bytes: 19, then 8 for anything but a composite, then 15.
+fn split_item(bytes: &[u8], u: Unit, out: &mut [u8]) -> Written
+    requires { ⌜ unitReadAs (readItem (now bytes)) ≡ found.Unit u ⌝ }
+    ensures answer { λ r. ⌜ r ≡ writtenAs (items.split (now (bytes .entry)) (length (now (out .entry)))) ⌝ }
+    ensures area { λ r. ⌜ now (out .exit) ≡ areaAfter (items.split (now (bytes .entry)) (length (now (out .entry)))) (now (out .entry)) ⌝ }
+{
+    if u.used < bytes.len() {
+        return Written::Refused(Refusal::BYTES_LEFT_OVER);
+    }
+    if !u.main_type.is(MainType::ISCC) {
+        return Written::Refused(Refusal::NOT_PERMITTED);
+    }
+    let c = gather::from_code(bytes, u.subtype, u.length as usize);
+    writer::write_units(c, out)
+}
+
+// Tests 7, 8, 9, 19, then 8 for anything but a composite, then 15. The units stand end to end in the composite's order.
+pub fn split(bytes: &[u8], out: &mut [u8]) -> Written
+    ensures answer { λ r. ⌜ r ≡ writtenAs (items.split (now (bytes .entry)) (length (now (out .entry)))) ⌝ }
+    ensures area { λ r. ⌜ now (out .exit) ≡ areaAfter (items.split (now (bytes .entry)) (length (now (out .entry)))) (now (out .entry)) ⌝ }
+{
+    let answer = unit::reader::read(bytes);
+    match answer {
+        UnitRead::Refused(q) => Written::Refused(q),
+        UnitRead::Unit(u) => split_item(bytes, u, out),
+    }
+}
