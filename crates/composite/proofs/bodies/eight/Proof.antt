@@ -1,3 +1,4 @@
+-- `eight` meets its contract. Assumes nothing.
 use mathlib.Core.Path.{sym}
 use native.Mathlib.Nat.{add-zero}
 use Rattle.composite.proofs.Parts.{elems-part}

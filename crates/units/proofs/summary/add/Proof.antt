@@ -1,3 +1,4 @@
+-- `add` meets its contract. Assumes nothing.
 use Rattle.units.proofs.Added.{add-made}
 use borrow.Author.Needs.{needs}
 use Rattle.units.proofs.summary.add.Statement.{statement}

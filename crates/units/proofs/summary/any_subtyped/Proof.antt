@@ -1,3 +1,4 @@
+-- `any_subtyped` meets its contract. Assumes nothing.
 use Rattle.units.proofs.Tests.{tests}
 use borrow.Author.Needs.{needs}
 use Rattle.units.proofs.summary.any_subtyped.Statement.{statement}

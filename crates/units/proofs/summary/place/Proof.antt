@@ -1,3 +1,4 @@
+-- `place` meets its contract. Assumes nothing.
 use Rattle.units.specs.Summary.{placed}
 use Rattle.units.proofs.Tests.{tests}
 use borrow.Author.Needs.{needs}
