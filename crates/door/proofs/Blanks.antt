@@ -1,4 +1,4 @@
--- Blanks and scheme by index, and the span that is left between them. Assumes nothing.
+-- Blanks at both ends and the scheme, by index. Assumes nothing.
 use Prim.Native.Nat.{ℕ, suc, _+_, _-_, _≤_, _<_}
 use mathlib.Core.Path.{_≡_, sym, _∙_, ap}
 use mathlib.Core.Bool.{Bool, true, false, not}
