@@ -5,3 +5,4 @@ pub mod Read
 pub mod Bounds
 pub mod Digits
 pub mod Write
+pub mod Short

@@ -1,5 +1,5 @@
 -- The code's types (src/) as forms of the definitions' values. Assumes nothing.
-use Prim.Native.Nat.{ℕ, _+_, _*_, _^_, _≤_}
+use Prim.Native.Nat.{ℕ, _+_, _*_, _^_, _≤_, _/_, _%_}
 use mathlib.Core.Path.{_≡_}
 use mathlib.Core.List.{List}
 use lib.ListN.{drop}
@@ -53,3 +53,7 @@ pub record NumbersIn (bs : List ℕ) (n : Numbers) : Type 0 where
   pub third : n .version ≡ numberAs (readVarnibble (drop (n .«main_type» .width + n .subtype .width) (iscc.nibbles bs)))
   pub fourth : n .length ≡ numberAs (readVarnibble (drop (n .«main_type» .width + n .subtype .width + n .version .width) (iscc.nibbles bs)))
   pub most : n .«main_type» .width + n .subtype .width + n .version .width + n .length .width ≤ 16
+
+-- a header of two bytes whose four nibbles are its numbers
+abbrev pub shortHeader : ℕ → ℕ → RawHeader
+shortHeader a b = record { header = record { «main_type» = a / 16; subtype = a % 16; version = b / 16; length = b % 16 }; used = 2 }

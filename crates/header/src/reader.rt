@@ -1,13 +1,13 @@
 // Reads the raw header at the front of bytes.
 ghost use mathlib.Core.Path.{_≡_};
 ghost use Prim.Native.Nat.{_+_, _*_, _%_, _≤_, _<_};
-ghost use mathlib.Core.Bool.{_||_};
-ghost use lib.Dec.{eqb};
+ghost use mathlib.Core.Bool.{_||_, _&&_};
+ghost use lib.Dec.{eqb, ltb};
 ghost use lib.ListN.{length, take, drop, getD};
 ghost use Rattle.iscc.specs.Digits.{value};
 ghost use Rattle.iscc.specs.Varnibble.{readVarnibble};
 ghost use Rattle.iscc.specs.Header.{nibbles, readHeader};
-ghost use Rattle.header.specs.Forms.{numberAs, NumbersIn, headerReadAs};
+ghost use Rattle.header.specs.Forms.{numberAs, NumbersIn, headerReadAs, shortHeader};
 use crate::Header;
 use crate::rows;
 use iscc::refusal::Refusal;
@@ -124,8 +124,8 @@ fn padded(bytes: &[u8], count: usize) -> bool
     nibble(bytes, count) == 0
 }
 
-// The raw header at the front of the bytes, or 7. What follows is not its concern.
-pub fn read(bytes: &[u8]) -> HeaderRead
+// A header of any size at the front of the bytes, or 7.
+fn read_any(bytes: &[u8]) -> HeaderRead
     ensures { λ r. ⌜ r ≡ headerReadAs (readHeader (now (bytes .entry))) ⌝ }
 {
     let n = numbers_at_front(bytes);
@@ -154,4 +154,51 @@ pub fn read(bytes: &[u8]) -> HeaderRead
         },
         used: (count + 1) / 2,
     })
+}
+
+// Whether two bytes are a header of four numbers below 8, the only kind that is permitted.
+fn is_short(a: u8, b: u8) -> bool
+    ensures { λ r. ⌜ r ≡ (ltb a 128 && ltb (a % 16) 8 && ltb b 128 && ltb (b % 16) 8) ⌝ }
+{
+    if 128 <= a {
+        return false;
+    }
+    if 8 <= a % 16 {
+        return false;
+    }
+    if 128 <= b {
+        return false;
+    }
+    b % 16 < 8
+}
+
+// Such a header: each number is its own nibble.
+fn short(a: u8, b: u8) -> RawHeader
+    ensures { λ r. ⌜ r ≡ shortHeader a b ⌝ }
+{
+    let first = wide(a);
+    let second = wide(b);
+    RawHeader {
+        header: Header {
+            main_type: first / 16,
+            subtype: first % 16,
+            version: second / 16,
+            length: second % 16,
+        },
+        used: 2,
+    }
+}
+
+// The raw header at the front of the bytes, or 7. What follows is not its concern.
+pub fn read(bytes: &[u8]) -> HeaderRead
+    ensures { λ r. ⌜ r ≡ headerReadAs (readHeader (now (bytes .entry))) ⌝ }
+{
+    if 2 <= bytes.len() {
+        let a = bytes[0];
+        let b = bytes[1];
+        if is_short(a, b) {
+            return HeaderRead::Header(short(a, b));
+        }
+    }
+    read_any(bytes)
 }
