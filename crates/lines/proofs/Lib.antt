@@ -1,0 +1,5 @@
+-- The laws of the line program on pieces of its input.
+pub mod Answers
+pub mod Refusals
+pub mod Held
+pub mod Fed
