@@ -1,145 +1,123 @@
+-- `lines::feed::feed` meets its contract. The loop's invariant: what is taken and answered so far, with what is left to feed.
+-- Assumes nothing.
+use Prim.Native.Nat.{_-_}
+use mathlib.Core.Path.{refl, _∙_, ap}
+use native.Mathlib.Omega.{arith}
+use borrow.Author.Needs.{needs}
+use lib.ListN.{length}
+use Rattle.iscc.proofs.Area.{length-written}
+use Rattle.lines.proofs.Held.{length-line}
+use Rattle.lines.proofs.Fed.{Sofar, bounds, sofar-none, ended-short, ended-full, ended-all, ended-begun, next-line}
 use Rattle.lines.proofs.feed.feed.Statement.{statement}
 use Rattle.lines.proofs.feed.feed.Tie as tie
-use Rattle.lines.proofs.feed.feed.Reads as reads
-use Rattle.lines.proofs.feed.feed.Lts as lts
-use Rattle.lines.proofs.answer.joined.Reads as joined-reads
-use Rattle.lines.proofs.begun.add.Reads as add-reads
-use Rattle.lines.proofs.begun.count.Reads as count-reads
-use Rattle.lines.proofs.scan.line_length.Reads as line-length-reads
 
 abbrev Inv-loop : tie.InvT-loop
-Inv-loop line₀ held piece out₀ kept₀ used₀ written₀ line out kept used written = ?
+Inv-loop line₀ held piece out₀ kept₀ used₀ written₀ line out kept used written = Sofar out₀ piece line₀ held line out kept used written
 
 abbrev μ-loop : tie.MeasureT-loop
-μ-loop line₀ held piece out₀ kept₀ used₀ written₀ line out kept used written = ?
+μ-loop line₀ held piece out₀ kept₀ used₀ written₀ line out kept used written = length piece - used
 
--- src/feed.rt:30:9
-count-requires : tie.Need-count-requires Inv-loop μ-loop
-count-requires c κs = ?
-
--- src/feed.rt:32:9
-same-length : tie.Need-same-length Inv-loop μ-loop
-same-length c = ?
-
--- src/feed.rt:32:9
 returns : tie.Need-returns Inv-loop μ-loop
-returns c = ?
+returns c = ended-short _ _ _ _ _ (c .before .count .ensures) (c .if1 .taken)
 
--- src/feed.rt:40:5
 loop-holds : tie.Need-loop-holds Inv-loop μ-loop
-loop-holds c = ?
+loop-holds c = sofar-none _ _ _ _ _ (c .if1 .left) (c .before .count .ensures)
 
--- src/feed.rt:41:12
 sub-if2 : tie.Need-sub-if2 Inv-loop μ-loop
-sub-if2 c = ?
+sub-if2 c = bounds (c .before .loop .inv) .filled
 
--- src/feed.rt:42:13
 same-length-2 : tie.Need-same-length-2 Inv-loop μ-loop
-same-length-2 c = ?
+same-length-2 c = ap length (c .before .before .loop .inv .same)
 
--- src/feed.rt:42:13
 same-length-3 : tie.Need-same-length-3 Inv-loop μ-loop
-same-length-3 c = ?
+same-length-3 c = length-written (c .before .before .loop .inv .wrote)
 
--- src/feed.rt:42:13
 returns-2 : tie.Need-returns-2 Inv-loop μ-loop
-returns-2 c = ?
+returns-2 c =
+    let s = c .before .before .loop .inv in
+    ended-full _ _ _ _ _ _ _ _ _ s (c .if2 .taken)
 
--- src/feed.rt:48:20
 sub-rest : tie.Need-sub-rest Inv-loop μ-loop
-sub-rest c = ?
+sub-rest c = bounds (c .before .before .loop .inv) .taken
 
--- src/feed.rt:48:20
 part-rest-start : tie.Need-part-rest-start Inv-loop μ-loop
-part-rest-start c = ?
+part-rest-start c = bounds (c .before .before .loop .inv) .taken
 
--- src/feed.rt:48:20
-part-rest-end : tie.Need-part-rest-end Inv-loop μ-loop
-part-rest-end c = ?
-
--- src/feed.rt:49:13
-line-length-requires : tie.Need-line-length-requires Inv-loop μ-loop
-line-length-requires c κs = ?
-
--- src/feed.rt:51:17
 add-requires : tie.Need-add-requires Inv-loop μ-loop
-add-requires c κs = ?
+add-requires c κs =
+    let s = c .before .before .before .before .before .before .loop .inv in
+    omega (arith, ap length (s .same), s .room)
 
--- src/feed.rt:54:23
 add-t22 : tie.Need-add-t22 Inv-loop μ-loop
-add-t22 c = ?
+add-t22 c =
+    let l = c .before .before .before .before .before in
+    let b = bounds (l .before .before .before .before .loop .inv) in
+    omega (arith, b .part, b .taken, l .line-length .ensures .0)
 
--- src/feed.rt:52:13
 same-length-4 : tie.Need-same-length-4 Inv-loop μ-loop
-same-length-4 c = ?
+same-length-4 c =
+    let a = c .before .before in
+    let s = a .before .before .before .before .before .before .before .loop .inv in
+    ap length (a .add .ensures .1) ∙ length-line _ _ (omega (arith, ap length (s .same), s .room)) ∙ ap length (s .same)
 
--- src/feed.rt:52:13
 same-length-5 : tie.Need-same-length-5 Inv-loop μ-loop
-same-length-5 c = ?
+same-length-5 c = length-written (c .before .before .before .before .before .before .before .before .before .loop .inv .wrote)
 
--- src/feed.rt:52:13
 returns-3 : tie.Need-returns-3 Inv-loop μ-loop
-returns-3 c = ?
+returns-3 c =
+    let a = c .before .before in
+    let t = a .before .before in
+    let l = t .before in
+    let e = l .before .before in
+    let s = e .before .before .loop .inv in
+    ended-begun _ _ _ _ _ _ _ _ _ s _ refl (e .if2 .left) _ (l .line-length .ensures .1) _ _ (t .if3 .taken) (a .add .ensures .0) (a .add .ensures .1)
 
--- src/feed.rt:58:47
-sub-joined : tie.Need-sub-joined Inv-loop μ-loop
-sub-joined c = ?
-
--- src/feed.rt:58:47
-part-joined-start : tie.Need-part-joined-start Inv-loop μ-loop
-part-joined-start c = ?
-
--- src/feed.rt:58:47
 part-joined-end : tie.Need-part-joined-end Inv-loop μ-loop
-part-joined-end c = ?
+part-joined-end c = c .before .before .line-length .ensures .0
 
--- src/feed.rt:58:60
-sub-joined-2 : tie.Need-sub-joined-2 Inv-loop μ-loop
-sub-joined-2 c = ?
-
--- src/feed.rt:58:60
 part-joined-start-2 : tie.Need-part-joined-start-2 Inv-loop μ-loop
-part-joined-start-2 c = ?
+part-joined-start-2 c = bounds (c .before .before .before .before .before .before .before .loop .inv) .filled
 
--- src/feed.rt:58:60
-part-joined-end-2 : tie.Need-part-joined-end-2 Inv-loop μ-loop
-part-joined-end-2 c = ?
-
--- src/feed.rt:58:20
 joined-requires : tie.Need-joined-requires Inv-loop μ-loop
-joined-requires c κs = ?
+joined-requires c κs =
+    let e = c .before .before .before .before .before .before in
+    let s = e .before .before .loop .inv in
+    (omega (arith, bounds s .space, e .if2 .left), omega (arith, ap length (s .same), s .room))
 
--- src/feed.rt:58:9
-add-written : tie.Need-add-written Inv-loop μ-loop
-add-written c = ?
-
--- src/feed.rt:60:17
-add-used : tie.Need-add-used Inv-loop μ-loop
-add-used c = ?
-
--- src/feed.rt:60:9
-add-used-2 : tie.Need-add-used-2 Inv-loop μ-loop
-add-used-2 c = ?
-
--- src/feed.rt:40:5
-loop-less : tie.Need-loop-less Inv-loop μ-loop
-loop-less c = ?
-
--- src/feed.rt:40:5
 loop-again : tie.Need-loop-again Inv-loop μ-loop
-loop-again c = ?
+loop-again c =
+    let j = c .before .before in
+    let t = j .before .before .before .before in
+    let l = t .before in
+    let e = l .before .before in
+    let s = e .before .before .loop .inv in
+    next-line _ _ _ _ _ _ _ _ _ s _ refl (e .if2 .left) _ (l .line-length .ensures .1) (l .line-length .ensures .0) (t .if3 .left) _ _ (j .joined .ensures .0) (j .joined .ensures .1)
 
--- src/feed.rt:25:1
-same-length-6 : tie.Need-same-length-6 Inv-loop μ-loop
-same-length-6 c = ?
+add-written : tie.Need-add-written Inv-loop μ-loop
+add-written c =
+    let s = loop-again c in
+    let z = c .before .before .before .before .before .before .before .before .before .before .before .before .before .before .before .before .before .before in
+    omega (arith, s .wrote .room, z .good .1 .1 .1 .0 .0)
 
--- src/feed.rt:25:1
-same-length-7 : tie.Need-same-length-7 Inv-loop μ-loop
-same-length-7 c = ?
+add-used : tie.Need-add-used Inv-loop μ-loop
+add-used c =
+    let s = loop-again c in
+    let z = c .before .before .before .before .before .before .before .before .before .before .before .before .before .before .before .before .before .before in
+    omega (arith, s .within, z .good .1 .1 .0 .0)
 
--- src/feed.rt:25:1
+add-used-2 : tie.Need-add-used-2 Inv-loop μ-loop
+add-used-2 c =
+    let s = loop-again c in
+    let z = c .before .before .before .before .before .before .before .before .before .before .before .before .before .before .before .before .before .before in
+    omega (arith, s .within, z .good .1 .1 .0 .0)
+
+loop-less : tie.Need-loop-less Inv-loop μ-loop
+loop-less c = omega (arith, loop-again c .within)
+
 returns-4 : tie.Need-returns-4 Inv-loop μ-loop
-returns-4 c = ?
+returns-4 c =
+    let s = c .before .loop .inv in
+    ended-all _ _ _ _ _ _ _ _ _ s (c .loop-test .left)
 
 pub feed-spec : {M : Type 1} → statement M
 feed-spec =
@@ -147,8 +125,8 @@ feed-spec =
     (tie.spec
     Inv-loop
     μ-loop
-    count-requires
-    same-length
+    (λ c κs. search needs)
+    (λ c. search needs)
     returns
     loop-holds
     sub-if2
@@ -157,25 +135,25 @@ feed-spec =
     returns-2
     sub-rest
     part-rest-start
-    part-rest-end
-    line-length-requires
+    (λ c. search needs)
+    (λ c κs. search needs)
     add-requires
     add-t22
     same-length-4
     same-length-5
     returns-3
-    sub-joined
-    part-joined-start
+    (λ c. search needs)
+    (λ c. search needs)
     part-joined-end
-    sub-joined-2
+    (λ c. search needs)
     part-joined-start-2
-    part-joined-end-2
+    (λ c. search needs)
     joined-requires
     add-written
     add-used
     add-used-2
     loop-less
     loop-again
-    same-length-6
-    same-length-7
+    (λ c. ap length (c .before .loop .inv .same))
+    (λ c. length-written (c .before .loop .inv .wrote))
     returns-4)
