@@ -3,3 +3,5 @@ pub mod Answers
 pub mod Refusals
 pub mod Held
 pub mod Fed
+pub mod Lines
+pub mod Pieces
