@@ -73,15 +73,20 @@ fn answer_all(line: &mut [u8]) -> usize
     held
 }
 
-// The whole program.
-pub fn run() {
-    let mut line = [0u8; 1024];
-    let held = answer_all(&mut line);
-    let mut out = [0u8; 74];
-    match lines::feed::finish(&line, held, &mut out) {
+// Answers a last line that no LF ends.
+fn answer_last(line: &[u8], held: usize, out: &mut [u8]) {
+    match lines::feed::finish(line, held, out) {
         Written::Length(n) => {
             io::write_all(STDOUT_FILENO, &out[0..n]);
         }
         Written::Refused(_) => {}
     }
+}
+
+// The whole program.
+pub fn run() {
+    let mut line = [0u8; 1024];
+    let held = answer_all(&mut line);
+    let mut out = [0u8; 74];
+    answer_last(&line, held, &mut out);
 }

@@ -5,14 +5,18 @@ use mathlib.Core.Bool.{Bool, true, false, cond}
 use mathlib.Core.List.{List, [], _∷_, _++_, map, append-nil, append-assoc}
 use native.Mathlib.Numerals.{add-one}
 use native.Mathlib.Omega.{arith}
-use lib.ListN.{length, take, drop, length-append}
+use lib.ListN.{length, take, drop, length-append, length-drop}
 use lib.Seq.{append-snoc, take-length}
 use lib.Dec.{eqb, leb}
 use borrow.Author.Tests.{le-leb, leb-true, leb-false, eqb-true}
 use Rattle.iscc.specs.Refusals.{areaTooShort}
-use Rattle.iscc.specs.Answer.{accept, _>>_, _otherwise_}
+use Rattle.iscc.specs.Forms.{writtenAs}
+use Rattle.iscc.specs.declared.written.Written.{Written}
+use Rattle.iscc.specs.declared.written.Written.the-variants.{Length}
+use Rattle.iscc.specs.Answer.{Answer, accept, refuse, _>>_, _otherwise_, areaAfter}
 use Rattle.iscc.specs.Lines.{lineProgram}
-use Rattle.lines.specs.Feeding.{Feeding, answerLine, behind, nothingFed, feeding, begunLine, heldFor, lineFor, roomFor, fedBy, lastAnswer, finishing}
+use Rattle.lines.specs.Feeding.{Feeding, answerLine, behind, nothingFed, feeding, begunLine, heldFor, lineFor, roomFor, fedBy, fedAs, lastAnswer, finishing}
+use Rattle.lines.specs.declared.feed.Fed.{Fed}
 use Rattle.lines.specs.Pieces.{Call, fedIn, taken, outputs, wholly, joined, AnyCut}
 use Rattle.lines.proofs.Answers.{answer-short}
 use Rattle.lines.proofs.Held.{shortened, begun-kept, length-line, begun-none}
@@ -176,3 +180,35 @@ any-cut = record {
   within = within;
   last = last;
 }
+
+-- ---- what a caller of `feed` needs, from its contract
+
+pub record FedBounds (line after piece out area : List ℕ) (r : Fed) : Type 0 where
+  pub used : r .used ≤ length piece
+  pub some : 0 < r .used
+  pub written : r .written ≤ length out
+  pub same-line : length after ≡ length line
+  pub same-area : length area ≡ length out
+
+pub fed-bounds : (line after piece out area : List ℕ) (held : ℕ) (r : Fed) → 1024 ≤ length line → 74 ≤ length out → 0 < length piece
+    → r ≡ fedAs (fedBy line held piece (length out)) → after ≡ lineFor (fedBy line held piece (length out) .begun) line
+    → area ≡ areaAfter (accept (fedBy line held piece (length out) .answers)) out → FedBounds line after piece out area r
+fed-bounds line after piece out area held r room space l e f g =
+    let w : FedWithin (length out) piece (fedBy line held piece (length out)) = fed-by line piece held (length out) room in
+    let u : r .used ≡ fedBy line held piece (length out) .used = ap (λ (x : Fed). x .used) e in
+    let n : r .written ≡ length (fedBy line held piece (length out) .answers) = ap (λ (x : Fed). x .written) e in
+    record {
+      used = omega (arith, w .used);
+      some = omega (arith, w .some space l);
+      written = omega (arith, w .answers);
+      same-line = ap length f ∙ length-line _ line room;
+      same-area = ap length g ∙ simp (length-append, length-drop) (omega (arith, w .answers));
+    }
+
+-- and a caller of `finish`: what was written lies within the area
+pub written-within : (x : Answer (List ℕ)) (d a : List ℕ) (w : Written) (n : ℕ) → w ≡ writtenAs x → a ≡ areaAfter x d → w ≡ Length n → n ≤ length a
+written-within (accept out) d a w n e f g =
+    let k : n ≡ length out = cc in
+    let l : length a ≡ length out + length (drop (length out) d) = ap length f ∙ length-append out (drop (length out) d) in
+    omega arith
+written-within (refuse q) d a w n e f g = let z : _≡_ {A = ℕ} 0 1 = cc in absurd (omega arith)
