@@ -1,0 +1,4 @@
+// The line program, tried on an empty input.
+fn main() {
+    line_program::run();
+}

@@ -1,0 +1,3 @@
+-- What the line program keeps between pieces of its input, and what feeding a piece does.
+pub mod Feeding
+pub mod Pieces
