@@ -15,7 +15,6 @@ use Rattle.iscc.specs.Item.{Item, readItem, itemBytes, itemOf}
 use Rattle.iscc.specs.Lists.{firstNot}
 use Rattle.iscc.specs.Permitted.{META, SEMANTIC, CONTENT}
 use Rattle.iscc.specs.Items.{bodyIn, subtypeOf, readUpTo, readItems, joinable, compositeFrom, joinedMeaning, joinedBytes}
-use Rattle.iscc.specs.Forms.{writtenAs}
 use Rattle.iscc.specs.declared.written.Written.the-variants as written
 use Rattle.iscc.proofs.Answer.{answered}
 use Rattle.iscc.proofs.Items.{items-read, CompositeParts, compositeFrom-parts, compositeFrom-permitted}
@@ -64,9 +63,9 @@ by-composite : (k : ℕ) (a : Answer Meaning) → verdict.Composite ≡ verdictA
 by-composite k (accept m) e = (m, refl)
 by-composite k (refuse p) e = let z : _≡_ {A = ℕ} 0 1 = cc in absurd (omega arith)
 
-composed-as : (bs : List ℕ) (is : List Item) (m : Meaning) → readItems bs ≡ accept is → compositeFrom is ≡ accept m → composedBytes bs ≡ accept (itemBytes (itemOf m))
+composedBytes-is : (bs : List ℕ) (is : List Item) (m : Meaning) → readItems bs ≡ accept is → compositeFrom is ≡ accept m → composedBytes bs ≡ accept (itemBytes (itemOf m))
 unfolding composedBytes
-composed-as bs is m e f = rw (e, f)
+composedBytes-is bs is m e f = rw (e, f)
 
 module _ (bs : List ℕ) (l : Summary) (i : Listed bs l) {v : Verdict} (ev : (cs : List ℕ) (is : List Item) → Summarizes cs is l → v ≡ verdictOf is) where
   verdict-is : v ≡ verdictOf (i .items)
@@ -84,14 +83,8 @@ module _ (bs : List ℕ) (l : Summary) (i : Listed bs l) {v : Verdict} (ev : (cs
       let r = by-composite (brokenAt (i .items)) (compositeFrom (i .items)) (sym e ∙ verdict-is) in (
         r .0,
         record { items = i .items; summary = i .summary; made = r .1; permitted = compositeFrom-permitted (i .items) (r .0) (items-read bs (i .items) b (i .read) .permitted) (r .1) },
-        composed-as bs (i .items) (r .0) (i .read) (r .1),
+        composedBytes-is bs (i .items) (r .0) (i .read) (r .1),
       )
-
--- ---- a refusal before anything is written
-
-pub refused-into : (a : Answer (List ℕ)) (d : List ℕ) (q : Refusal) → a ≡ refuse q
-    → (written.Refused q ≡ writtenAs (into (length d) a)) × (d ≡ areaAfter (into (length d) a) d)
-refused-into a d q e = rw e (refl, refl)
 
 -- ---- what the list reader tells
 

@@ -161,16 +161,16 @@ module _ (l : Summary) (r : Bool) (e : r ≡ anySubtyped (l .places)) where
   subtype-6 t z = rw (← e, t, ne-eqb (getD (l .places) 0 0) 0 z)
 
 -- a set's units fit the table
-pub five : (a b c : Bool) → unitCount (record { meta = a; semantic = b; content = c }) ≤ length (unitSetAs (record { meta = a; semantic = b; content = c }) .units)
+pub units-fit : (a b c : Bool) → unitCount (record { meta = a; semantic = b; content = c }) ≤ length (unitSetAs (record { meta = a; semantic = b; content = c }) .units)
 unfolding unitSetAs unitTypes
-five true true true = lit≤ tt
-five true true false = lit≤ tt
-five true false true = lit≤ tt
-five true false false = lit≤ tt
-five false true true = lit≤ tt
-five false true false = lit≤ tt
-five false false true = lit≤ tt
-five false false false = lit≤ tt
+units-fit true true true = lit≤ tt
+units-fit true true false = lit≤ tt
+units-fit true false true = lit≤ tt
+units-fit true false false = lit≤ tt
+units-fit false true true = lit≤ tt
+units-fit false true false = lit≤ tt
+units-fit false false true = lit≤ tt
+units-fit false false false = lit≤ tt
 
 module _ (bs : List ℕ) (l : Summary) (m : Meaning) (k : Makes bs l m) where
   abbrev is : List Item
@@ -221,7 +221,7 @@ module _ (bs : List ℕ) (l : Summary) (m : Meaning) (k : Makes bs l m) where
       subst (λ (x : List MainType). There bs (l .places) (getD x i (record { number = 0 }))) (sym (ap (λ (x : UnitSet). x .units) f))
       (all-at (There bs (l .places)) (unitCount set) (unitSetAs set .units) i (record { number = 0 })
       (all-there bs (l .places) (of .dataBody) (of .instanceBody) data-at instance-at (bodyIn META is) (bodyIn SEMANTIC is) (bodyIn CONTENT is) (at META (permitted-parts .meta)) (at SEMANTIC (permitted-parts .semantic)) (at CONTENT (permitted-parts .content)))
-      (omega arith) (five (has META is) (has SEMANTIC is) (has CONTENT is)))
+      (omega arith) (units-fit (has META is) (has SEMANTIC is) (has CONTENT is)))
 
   pub list-made : (u : UnitSet) (r : List (List ℕ)) → u ≡ unitSetAs (setOf (setNumber (setAt (l .places))))
       → r ≡ rows (λ i. take 8 (drop (placeIn (l .places) (u .units) i) bs)) (u .count) 5

@@ -36,7 +36,7 @@ use Rattle.composite.specs.Bodies.{parts, rows, laid, compositeAs}
 use Rattle.composite.specs.Code.{Sound, unitOf, unitAt, splitInto}
 use Rattle.units.proofs.Reached.{rest-is}
 use Rattle.composite.proofs.Parts.{laid-length, laid-same, rows-same}
-use Rattle.composite.proofs.Made.{All, all-at, five}
+use Rattle.composite.proofs.Made.{All, all-at, units-fit}
 use Rattle.composite.proofs.Bytes.{sound-of}
 
 -- ---- one unit of 64 bits
@@ -152,7 +152,7 @@ module _ (c : Composite) (ok : Sound c) where
   unit-ok i h =
       all-at (Ok (c .subtype)) (unitCount set) (unitSetAs set .units) i (record { number = 0 })
       (all-ok (c .subtype) (set .meta) (set .semantic) (set .content) (ap (λ (l : ℕ). compositeSubtype l (c .subtype)) (number-back (c .length) (ok .number)) ∙ ok .subtype))
-      h (five (set .meta) (set .semantic) (set .content))
+      h (units-fit (set .meta) (set .semantic) (set .content))
 
   pub unit-long : (i : ℕ) → i < unitCount set → length (itemBytes (unitAt c i)) ≡ 10
   unfolding unitAt

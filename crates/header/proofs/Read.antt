@@ -79,9 +79,9 @@ stopped : (ns : List ℕ) (n : Number) → n ≡ numberAs (readVarnibble ns) →
 unfolding readVarnibble
 stopped ns n e z = only-7 (ltb 0 (length ns)) (ltb (getD ns 0 0) 15) (leb (rowBy (getD ns 0 0)) (length ns)) _ n (some-by (getD ns 0 0)) z e
 
-went : (r : Answer (Parsed ℕ)) (n : Number) → n ≡ numberAs r → (n .width ≡ 0 → ⊥) → r ≡ accept (parsed (n .value) (n .width))
-went (accept g) n e z = ap (λ (x : Number). accept (parsed (x .value) (x .width))) (sym e)
-went (refuse q) n e z = absurd (z (ap (λ (x : Number). x .width) e))
+accepted-number : (r : Answer (Parsed ℕ)) (n : Number) → n ≡ numberAs r → (n .width ≡ 0 → ⊥) → r ≡ accept (parsed (n .value) (n .width))
+accepted-number (accept g) n e z = ap (λ (x : Number). accept (parsed (x .value) (x .width))) (sym e)
+accepted-number (refuse q) n e z = absurd (z (ap (λ (x : Number). x .width) e))
 
 -- ---- the header reader's cases
 
@@ -98,7 +98,7 @@ module _ (bs : List ℕ) (n : Numbers) (f : NumbersIn bs n) where
 
   module _ (a : n .«main_type» .width ≡ 0 → ⊥) where
     first-is : readVarnibble (nibbles bs) ≡ accept (parsed (n .«main_type» .value) (n .«main_type» .width))
-    first-is = went _ _ (f .first) a
+    first-is = accepted-number _ _ (f .first) a
 
     pub bad-second : n .subtype .width ≡ 0 → Bad
     unfolding readHeader
@@ -106,7 +106,7 @@ module _ (bs : List ℕ) (n : Numbers) (f : NumbersIn bs n) where
 
     module _ (b : n .subtype .width ≡ 0 → ⊥) where
       second-is : readVarnibble (drop (n .«main_type» .width) (nibbles bs)) ≡ accept (parsed (n .subtype .value) (n .subtype .width))
-      second-is = went _ _ (f .second) b
+      second-is = accepted-number _ _ (f .second) b
 
       pub bad-third : n .version .width ≡ 0 → Bad
       unfolding readHeader
@@ -114,7 +114,7 @@ module _ (bs : List ℕ) (n : Numbers) (f : NumbersIn bs n) where
 
       module _ (c : n .version .width ≡ 0 → ⊥) where
         third-is : readVarnibble (drop (n .«main_type» .width + n .subtype .width) (nibbles bs)) ≡ accept (parsed (n .version .value) (n .version .width))
-        third-is = went _ _ (f .third) c
+        third-is = accepted-number _ _ (f .third) c
 
         pub bad-fourth : n .length .width ≡ 0 → Bad
         unfolding readHeader
@@ -122,7 +122,7 @@ module _ (bs : List ℕ) (n : Numbers) (f : NumbersIn bs n) where
 
         module _ (d : n .length .width ≡ 0 → ⊥) where
           fourth-is : readVarnibble (drop (n .«main_type» .width + n .subtype .width + n .version .width) (nibbles bs)) ≡ accept (parsed (n .length .value) (n .length .width))
-          fourth-is = went _ _ (f .fourth) d
+          fourth-is = accepted-number _ _ (f .fourth) d
 
           module _ {p : Bool} (e : p ≡ (eqb (widths n % 2) 0 || eqb (getD (nibbles bs) (widths n) 0) 0)) where
             pub bad-pad : not p ≡ true → Bad

@@ -98,8 +98,8 @@ next-behind : (a : Bool) (bs : List ℕ) → bytesIn (nextBody a bs) ++ behind a
 next-behind true bs = take-append-drop 8 bs
 next-behind false bs = refl
 
-five : (a b c d e : List ℕ) → a ++ b ++ c ++ d ++ e ≡ a ++ (b ++ (c ++ (d ++ e)))
-five a b c d e = simp append-assoc
+append-five : (a b c d e : List ℕ) → a ++ b ++ c ++ d ++ e ≡ a ++ (b ++ (c ++ (d ++ e)))
+append-five a b c d e = simp append-assoc
 
 module _ (s v l : ℕ) (bs : List ℕ) where
   abbrev a : Bool
@@ -144,7 +144,7 @@ module _ (s v l : ℕ) (bs : List ℕ) where
   unfolding itemOf compositeOf
   composite-back h =
       let whole : bytesIn (nextBody a bs) ++ bytesIn (nextBody b bs₁) ++ bytesIn (nextBody c bs₂) ++ take 8 bs₃ ++ drop 8 bs₃ ≡ bs =
-      five (bytesIn (nextBody a bs)) (bytesIn (nextBody b bs₁)) (bytesIn (nextBody c bs₂)) (take 8 bs₃) (drop 8 bs₃)
+      append-five (bytesIn (nextBody a bs)) (bytesIn (nextBody b bs₁)) (bytesIn (nextBody c bs₂)) (take 8 bs₃) (drop 8 bs₃)
       ∙ rw (take-append-drop 8 bs₃, next-behind c bs₂, next-behind b bs₁, next-behind a bs) in
       rw (isIn-next a bs, isIn-next b bs₁, isIn-next c bs₂, number-back l h, whole)
 

@@ -1,14 +1,9 @@
 -- `split_item` meets its contract. Assumes nothing.
-use Prim.Native.Nat.{ℕ}
-use mathlib.Core.Path.{refl, _∙_, sym, ap}
-use mathlib.Core.List.{List}
+use mathlib.Core.Path.{refl, _∙_, sym}
 use native.Mathlib.Omega.{arith}
 use borrow.Author.Tests.{not-true, not-false, eqb-true}
-use lib.ListN.{length}
-use Rattle.iscc.specs.Answer.{Answer, into, areaAfter}
-use Rattle.iscc.specs.Forms.{writtenAs}
 use Rattle.iscc.proofs.Digits.{below-all}
-use Rattle.iscc.proofs.Lent.{refused}
+use Rattle.iscc.proofs.Lent.{refused, answers-same}
 use Rattle.unit.proofs.Sole.{one-is}
 use Rattle.composite.proofs.Units.{split-other, code-room, split-sound, split-whole}
 use borrow.Author.Needs.{needs}
@@ -39,12 +34,10 @@ returns-2 c =
     let t = f .before .before in
     let b = t .before .before .before in
     let s = b .before in
-    let z =
-    split-whole _ _ (one-is _ _ (s .pre)) (eqb-true _ 5 (sym (t .before .is .ensures) ∙ not-false _ (t .if1 .left)))
-    (below-all 256 (s .args .bytes .now) (λ i h. omega (arith, b .shared-slice-known .given i))) _ (f .from-code .ensures) in (
-      w .write-units .ensures .0 ∙ ap (λ (x : Answer (List ℕ)). writtenAs (into (length (s .args .out .now)) x)) (sym z),
-      w .write-units .ensures .1 ∙ ap (λ (x : Answer (List ℕ)). areaAfter (into (length (s .args .out .now)) x) (s .args .out .now)) (sym z),
-    )
+    answers-same (s .args .out .now)
+    (split-whole _ _ (one-is _ _ (s .pre)) (eqb-true _ 5 (sym (t .before .is .ensures) ∙ not-false _ (t .if1 .left)))
+    (below-all 256 (s .args .bytes .now) (λ i h. omega (arith, b .shared-slice-known .given i))) _ (f .from-code .ensures))
+    (w .write-units .ensures .0) (w .write-units .ensures .1)
 
 pub split-item-spec : {M : Type 1} → statement M
 split-item-spec =
