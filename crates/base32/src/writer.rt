@@ -9,6 +9,7 @@ ghost use Rattle.iscc.specs.Base32.{base32, writeBase32};
 ghost use Rattle.iscc.specs.Digits.{digits, value, digitCount};
 ghost use Rattle.iscc.specs.Forms.{writtenAs};
 use iscc::refusal::Refusal;
+use iscc::tables;
 use iscc::written::Written;
 
 fn wide(byte: u8) -> u64
@@ -60,7 +61,7 @@ fn fill(bytes: &[u8], out: &mut [u8])
     ensures { λ _. ⌜ now (out .exit) ≡ encode base32 (now (bytes .entry)) ++ drop (digitCount 5 (length (now (bytes .entry)))) (now (out .entry)) ⌝ }
 {
     // One copy for the whole text: a table that is named in a loop is copied at each use.
-    let alphabet = iscc::tables::ALPHABET;
+    let alphabet = tables::alphabet();
     let n = bytes.len();
     let mut i = 0;
     let mut o = 0;

@@ -1,6 +1,6 @@
 -- What a list's verdict says of the bytes that are written. Assumes nothing.
 use Prim.Native.Nat.{ℕ, zero, suc, _≤_, _<_}
-use mathlib.Core.Path.{_≡_, refl, sym, _∙_, ap, subst, subst⁻¹}
+use mathlib.Core.Path.{_≡_, refl, sym, _∙_, ap, subst⁻¹}
 use mathlib.Core.Bool.{Bool, true, false, cond}
 use mathlib.Core.List.{List, [], _∷_}
 use native.Mathlib.Omega.{arith}
@@ -9,16 +9,15 @@ use lib.Dec.{eqb, leb}
 use Rattle.iscc.specs.Refusals.{Refusal, notJoinable, lacksDataOrInstance}
 use Rattle.iscc.specs.Answer.{Answer, accept, refuse, _>>=_, _>>_, _otherwise_, into, areaAfter}
 use Rattle.iscc.specs.Digits.{Below}
-use Rattle.iscc.specs.Meaning.{Meaning, composite, Permitted}
+use Rattle.iscc.specs.Meaning.{Meaning}
 use Rattle.iscc.specs.Varnibble.{Parsed}
 use Rattle.iscc.specs.Item.{Item, readItem, itemBytes, itemOf}
 use Rattle.iscc.specs.Lists.{firstNot}
 use Rattle.iscc.specs.Permitted.{META, SEMANTIC, CONTENT}
 use Rattle.iscc.specs.Items.{bodyIn, subtypeOf, readUpTo, readItems, joinable, compositeFrom, joinedMeaning, joinedBytes}
-use Rattle.iscc.specs.Forms.{writtenAs}
 use Rattle.iscc.specs.declared.written.Written.the-variants as written
 use Rattle.iscc.proofs.Answer.{answered}
-use Rattle.iscc.proofs.Items.{items-read, composed-permitted}
+use Rattle.iscc.proofs.Items.{items-read, CompositeParts, compositeFrom-parts, compositeFrom-permitted}
 use Rattle.units.specs.declared.summary.Summary.{Summary}
 use Rattle.units.specs.declared.reader.Reading.{Reading}
 use Rattle.units.specs.declared.reader.Reading.the-variants as reading
@@ -31,30 +30,27 @@ use Rattle.composite.specs.declared.bodies.Composite.{Composite}
 use Rattle.composite.specs.Bodies.{Makes, compositeAs}
 use Rattle.composite.specs.Code.{Sound, codeBytes}
 use Rattle.composite.specs.Joined.{Listed, composedBytes, singleRefusal}
-use Rattle.composite.proofs.Made.{Made, made-of}
+use Rattle.composite.proofs.Made.{permitted-parts}
 use Rattle.composite.proofs.Bytes.{sound-of, code-of}
 
 -- ---- the composite that is written
 
 module _ (bs : List ℕ) (l : Summary) (m : Meaning) (k : Makes bs l m) (c : Composite) (e : c ≡ compositeAs m) where
-  abbrev of : Made (k .items) m
-  of = made-of (k .items) m (k .made)
-
   abbrev is : List Item
   is = k .items
 
-  permitted : Permitted (composite (subtypeOf is) 0 (bodyIn META is) (bodyIn SEMANTIC is) (bodyIn CONTENT is) (of .dataBody) (of .instanceBody))
-  permitted = subst Permitted (sym (of .meaning)) (k .permitted)
+  abbrev of : CompositeParts is m
+  of = compositeFrom-parts is m (k .made)
 
   pub makes-sound : Sound c
   makes-sound =
       subst⁻¹ Sound (e ∙ ap compositeAs (sym (of .meaning)))
-      (sound-of (subtypeOf is) 0 (of .dataBody) (of .instanceBody) (bodyIn META is) (bodyIn SEMANTIC is) (bodyIn CONTENT is) permitted)
+      (sound-of (subtypeOf is) 0 (of .dataBody) (of .instanceBody) (bodyIn META is) (bodyIn SEMANTIC is) (bodyIn CONTENT is) (permitted-parts bs l m k))
 
   pub makes-bytes : codeBytes c ≡ itemBytes (itemOf m)
   makes-bytes =
       ap codeBytes (e ∙ ap compositeAs (sym (of .meaning)))
-      ∙ code-of (subtypeOf is) 0 (of .dataBody) (of .instanceBody) (bodyIn META is) (bodyIn SEMANTIC is) (bodyIn CONTENT is) permitted
+      ∙ code-of (subtypeOf is) 0 (of .dataBody) (of .instanceBody) (bodyIn META is) (bodyIn SEMANTIC is) (bodyIn CONTENT is) (permitted-parts bs l m k)
       ∙ ap (λ (x : Meaning). itemBytes (itemOf x)) (of .meaning)
 
 -- ---- the verdict
@@ -67,9 +63,9 @@ by-composite : (k : ℕ) (a : Answer Meaning) → verdict.Composite ≡ verdictA
 by-composite k (accept m) e = (m, refl)
 by-composite k (refuse p) e = let z : _≡_ {A = ℕ} 0 1 = cc in absurd (omega arith)
 
-composed-as : (bs : List ℕ) (is : List Item) (m : Meaning) → readItems bs ≡ accept is → compositeFrom is ≡ accept m → composedBytes bs ≡ accept (itemBytes (itemOf m))
+composedBytes-is : (bs : List ℕ) (is : List Item) (m : Meaning) → readItems bs ≡ accept is → compositeFrom is ≡ accept m → composedBytes bs ≡ accept (itemBytes (itemOf m))
 unfolding composedBytes
-composed-as bs is m e f = rw (e, f)
+composedBytes-is bs is m e f = rw (e, f)
 
 module _ (bs : List ℕ) (l : Summary) (i : Listed bs l) {v : Verdict} (ev : (cs : List ℕ) (is : List Item) → Summarizes cs is l → v ≡ verdictOf is) where
   verdict-is : v ≡ verdictOf (i .items)
@@ -86,15 +82,9 @@ module _ (bs : List ℕ) (l : Summary) (i : Listed bs l) {v : Verdict} (ev : (cs
   verdict-makes b e =
       let r = by-composite (brokenAt (i .items)) (compositeFrom (i .items)) (sym e ∙ verdict-is) in (
         r .0,
-        record { items = i .items; summary = i .summary; made = r .1; permitted = composed-permitted (i .items) (r .0) (items-read bs (i .items) b (i .read) .permitted) (r .1) },
-        composed-as bs (i .items) (r .0) (i .read) (r .1),
+        record { items = i .items; summary = i .summary; made = r .1; permitted = compositeFrom-permitted (i .items) (r .0) (items-read bs (i .items) b (i .read) .permitted) (r .1) },
+        composedBytes-is bs (i .items) (r .0) (i .read) (r .1),
       )
-
--- ---- a refusal before anything is written
-
-pub refused-into : (a : Answer (List ℕ)) (d : List ℕ) (q : Refusal) → a ≡ refuse q
-    → (written.Refused q ≡ writtenAs (into (length d) a)) × (d ≡ areaAfter (into (length d) a) d)
-refused-into a d q e = rw e (refl, refl)
 
 -- ---- what the list reader tells
 

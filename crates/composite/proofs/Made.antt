@@ -9,21 +9,18 @@ use native.Mathlib.Omega.{arith}
 use lib.ListN.{length, take, drop, getD}
 use lib.Dec.{eqb, lit<, lit≤}
 use borrow.Author.Tests.{eqb-true, eq-eqb, ne-eqb}
-use Rattle.iscc.specs.Refusals.{Refusal}
-use Rattle.iscc.specs.Answer.{accept}
 use Rattle.iscc.specs.Permitted.{META, SEMANTIC, CONTENT, DATA, INSTANCE, Set, setOf, setNumber, unitTypes, unitCount}
 use Rattle.iscc.specs.Permitted as permitted
-use Rattle.iscc.specs.Meaning.{Meaning, composite, isIn, setIn}
+use Rattle.iscc.specs.Meaning.{Meaning, isIn, setIn, Sized, Eight, Permitted, PermittedComposite}
 use Rattle.iscc.specs.Item.{Item}
 use Rattle.iscc.specs.Lists.{every, pairwise}
-use Rattle.iscc.specs.Items.{sameType, joinable, is64Bits, otherType, hasSubtype, sharedSubtype, bodyIn, subtypeIn, has, subtypeOf, requiredBody, orMissing, compositeFrom}
+use Rattle.iscc.specs.Items.{sameType, hasSubtype, sharedSubtype, bodyIn, subtypeIn, has, subtypeOf}
 use Rattle.iscc.specs.Forms.{unitSetAs}
 use Rattle.iscc.specs.declared.main_type.MainType.{MainType}
 use Rattle.iscc.specs.declared.tables.UnitSet.{UnitSet}
-use Rattle.iscc.proofs.Answer.{passed, answered, never, accept-inj}
 use Rattle.iscc.proofs.Digits.{and-true}
 use Rattle.iscc.proofs.Permitted.{set-back}
-use Rattle.iscc.proofs.Items.{sameType-eq}
+use Rattle.iscc.proofs.Items.{sameType-eq, CompositeParts, compositeFrom-parts}
 use Rattle.units.specs.declared.summary.Summary.{Summary}
 use Rattle.units.specs.Summary.{Placed, firstSubtype, anySubtyped}
 use Rattle.units.proofs.Snoc.{subtyped}
@@ -33,41 +30,6 @@ use Rattle.composite.specs.Bodies.{parts, rows, bodiesIn, compositeAs, M
 pub count-is : (u : UnitSet) (n : ℕ) → u ≡ unitSetAs (setOf n) → u .count ≡ unitCount (setOf n)
 unfolding unitSetAs
 count-is u n e = ap (λ (x : UnitSet). x .count) e
-
--- ---- what a composite that a list makes is made of
-
-pub record Made (is : List Item) (m : Meaning) : Type 0 where
-  pub dataBody : List ℕ
-  pub instanceBody : List ℕ
-  pub dataIn : bodyIn DATA is ≡ some dataBody
-  pub instanceIn : bodyIn INSTANCE is ≡ some instanceBody
-  pub eight : every is64Bits is ≡ true
-  pub shared : pairwise sharedSubtype is ≡ true
-  pub meaning : composite (subtypeOf is) 0 (bodyIn META is) (bodyIn SEMANTIC is) (bodyIn CONTENT is) dataBody instanceBody ≡ m
-
-required : (r : Refusal) (o : Option (List ℕ)) (body : List ℕ) → orMissing r o ≡ accept body → o ≡ some body
-unfolding orMissing
-required r none body e = absurd (never e)
-required r (some x) body e = ap some (accept-inj e)
-
-pub made-of : (is : List Item) (m : Meaning) → compositeFrom is ≡ accept m → Made is m
-unfolding compositeFrom
-made-of is m e =
-    let e₁ = passed (every joinable is) _ _ e in
-    let e₂ = passed (every is64Bits is) _ _ (e₁ .1) in
-    let e₃ = passed (pairwise otherType is) _ _ (e₂ .1) in
-    let e₄ = answered (requiredBody DATA is) _ (e₃ .1) in
-    let e₅ = answered (requiredBody INSTANCE is) _ (e₄ .2) in
-    let e₆ = passed (pairwise sharedSubtype is) _ _ (e₅ .2) in
-    record {
-      dataBody = e₄ .0;
-      instanceBody = e₅ .0;
-      dataIn = required _ (bodyIn DATA is) (e₄ .0) (e₄ .1);
-      instanceIn = required _ (bodyIn INSTANCE is) (e₅ .0) (e₅ .1);
-      eight = e₂ .0;
-      shared = e₆ .0;
-      meaning = accept-inj (e₆ .1);
-    }
 
 -- ---- the subtype
 
@@ -126,25 +88,9 @@ abbrev At : List ℕ → Option (List ℕ) → ℕ → Type 0
 At bs none at = Unit {0}
 At bs (some body) at = (at + 8 ≤ length bs) × (take 8 (drop at bs) ≡ body)
 
-eight-in : (m : permitted.MainType) (is : List Item) (body : List ℕ) → every is64Bits is ≡ true → bodyIn m is ≡ some body → length body ≡ 8
-unfolding every bodyIn
-eight-in m [] body e h = let z : _≡_ {A = ℕ} 0 1 = cc in absurd (omega arith)
-eight-in m (i ∷ is) body e h =
-    let w = and-true (is64Bits i) (every is64Bits is) e in
-    go (sameType m (i .mainType)) (eqb-true (length (i .body)) 8 (w .0)) (eight-in m is body (w .1)) h
-  where
-    go : (b : Bool) → length (i .body) ≡ 8 → (bodyIn m is ≡ some body → length body ≡ 8) → cond b (some (i .body)) (bodyIn m is) ≡ some body → length body ≡ 8
-    go true l ih z = let s : i .body ≡ body = cc in subst (λ (x : List ℕ). length x ≡ 8) s l
-    go false l ih z = ih z
-
-place-at : (bs : List ℕ) (is : List Item) (m : permitted.MainType) (at : ℕ) → every is64Bits is ≡ true → Placed bs (bodyIn m is) at → At bs (bodyIn m is) at
-place-at bs is m at e p = go (bodyIn m is) p (λ body. eight-in m is body e)
-  where
-    go : (o : Option (List ℕ)) → Placed bs o at → ((body : List ℕ) → o ≡ some body → length body ≡ 8) → At bs o at
-    go none p f = tt
-    go (some body) p f =
-        let l : length body ≡ 8 = f body refl in
-        (omega (arith, p .1), ap (λ (k : ℕ). take k (drop at bs)) (sym l) ∙ p .2)
+place-at : (bs : List ℕ) (o : Option (List ℕ)) (at : ℕ) → Eight o → Placed bs o at → At bs o at
+place-at bs none at e p = tt
+place-at bs (some body) at e p = (omega (arith, p .1, e .0), ap (λ (k : ℕ). take k (drop at bs)) (sym (e .0)) ∙ p .2)
 
 abbrev pub All : (MainType → Type 0) → List MainType → Type 0
 All P [] = Unit {0}
@@ -215,23 +161,26 @@ module _ (l : Summary) (r : Bool) (e : r ≡ anySubtyped (l .places)) where
   subtype-6 t z = rw (← e, t, ne-eqb (getD (l .places) 0 0) 0 z)
 
 -- a set's units fit the table
-pub five : (a b c : Bool) → unitCount (record { meta = a; semantic = b; content = c }) ≤ length (unitSetAs (record { meta = a; semantic = b; content = c }) .units)
+pub units-fit : (a b c : Bool) → unitCount (record { meta = a; semantic = b; content = c }) ≤ length (unitSetAs (record { meta = a; semantic = b; content = c }) .units)
 unfolding unitSetAs unitTypes
-five true true true = lit≤ tt
-five true true false = lit≤ tt
-five true false true = lit≤ tt
-five true false false = lit≤ tt
-five false true true = lit≤ tt
-five false true false = lit≤ tt
-five false false true = lit≤ tt
-five false false false = lit≤ tt
+units-fit true true true = lit≤ tt
+units-fit true true false = lit≤ tt
+units-fit true false true = lit≤ tt
+units-fit true false false = lit≤ tt
+units-fit false true true = lit≤ tt
+units-fit false true false = lit≤ tt
+units-fit false false true = lit≤ tt
+units-fit false false false = lit≤ tt
 
 module _ (bs : List ℕ) (l : Summary) (m : Meaning) (k : Makes bs l m) where
   abbrev is : List Item
   is = k .items
 
-  abbrev of : Made is m
-  of = made-of is m (k .made)
+  abbrev of : CompositeParts is m
+  of = compositeFrom-parts is m (k .made)
+
+  pub permitted-parts : PermittedComposite (subtypeOf is) 0 (bodyIn META is) (bodyIn SEMANTIC is) (bodyIn CONTENT is) (of .dataBody) (of .instanceBody)
+  permitted-parts = subst Permitted (sym (of .meaning)) (k .permitted)
 
   abbrev set : Set
   set = setIn (bodyIn META is) (bodyIn SEMANTIC is) (bodyIn CONTENT is)
@@ -245,14 +194,17 @@ module _ (bs : List ℕ) (l : Summary) (m : Meaning) (k : Makes bs l m) where
   units-are : unitSetAs (setOf (setNumber (setAt (l .places)))) ≡ unitSetAs set
   units-are = ap (λ (s : Set). unitSetAs (setOf (setNumber s))) set-is ∙ ap unitSetAs (set-back (has META is) (has SEMANTIC is) (has CONTENT is))
 
-  at : (t : permitted.MainType) → At bs (bodyIn t is) (getD (l .places) (permitted.number t) 0)
-  at t = place-at bs is t (getD (l .places) (permitted.number t) 0) (of .eight) (k .summary .places t)
+  at : (t : permitted.MainType) → Eight (bodyIn t is) → At bs (bodyIn t is) (getD (l .places) (permitted.number t) 0)
+  at t e = place-at bs (bodyIn t is) (getD (l .places) (permitted.number t) 0) e (k .summary .places t)
+
+  at-some : (t : permitted.MainType) (body : List ℕ) → bodyIn t is ≡ some body → Sized 8 body → At bs (some body) (getD (l .places) (permitted.number t) 0)
+  at-some t body e z = place-at bs (some body) (getD (l .places) (permitted.number t) 0) z (rw e at (k .summary .places t))
 
   data-at : At bs (some (of .dataBody)) (getD (l .places) 3 0)
-  data-at = subst (λ (o : Option (List ℕ)). At bs o (getD (l .places) 3 0)) (of .dataIn) (at DATA)
+  data-at = at-some DATA (of .dataBody) (of .dataIn) (permitted-parts .dataBody)
 
   instance-at : At bs (some (of .instanceBody)) (getD (l .places) 4 0)
-  instance-at = subst (λ (o : Option (List ℕ)). At bs o (getD (l .places) 4 0)) (of .instanceIn) (at INSTANCE)
+  instance-at = at-some INSTANCE (of .instanceBody) (of .instanceIn) (permitted-parts .instanceBody)
 
   pub subtype-made : subtypeAt l ≡ subtypeOf is
   unfolding subtypeAt
@@ -268,8 +220,8 @@ module _ (bs : List ℕ) (l : Summary) (m : Meaning) (k : Makes bs l m) where
       let n : u .count ≡ unitCount set = ap (λ (x : UnitSet). x .count) f in
       subst (λ (x : List MainType). There bs (l .places) (getD x i (record { number = 0 }))) (sym (ap (λ (x : UnitSet). x .units) f))
       (all-at (There bs (l .places)) (unitCount set) (unitSetAs set .units) i (record { number = 0 })
-      (all-there bs (l .places) (of .dataBody) (of .instanceBody) data-at instance-at (bodyIn META is) (bodyIn SEMANTIC is) (bodyIn CONTENT is) (at META) (at SEMANTIC) (at CONTENT))
-      (omega arith) (five (has META is) (has SEMANTIC is) (has CONTENT is)))
+      (all-there bs (l .places) (of .dataBody) (of .instanceBody) data-at instance-at (bodyIn META is) (bodyIn SEMANTIC is) (bodyIn CONTENT is) (at META (permitted-parts .meta)) (at SEMANTIC (permitted-parts .semantic)) (at CONTENT (permitted-parts .content)))
+      (omega arith) (units-fit (has META is) (has SEMANTIC is) (has CONTENT is)))
 
   pub list-made : (u : UnitSet) (r : List (List ℕ)) → u ≡ unitSetAs (setOf (setNumber (setAt (l .places))))
       → r ≡ rows (λ i. take 8 (drop (placeIn (l .places) (u .units) i) bs)) (u .count) 5
@@ -280,7 +232,7 @@ module _ (bs : List ℕ) (l : Summary) (m : Meaning) (k : Makes bs l m) where
       let n : setNumber (setAt (l .places)) ≡ setNumber set = ap setNumber set-is in
       let w : r ≡ rows (λ i. getD (bodiesIn (bodyIn META is) (bodyIn SEMANTIC is) (bodyIn CONTENT is) (of .dataBody) (of .instanceBody)) i []) (unitCount set) 5 =
       q ∙ ap (λ (x : UnitSet). rows (λ i. take 8 (drop (placeIn (l .places) (x .units) i) bs)) (x .count) 5) f
-      ∙ rows-placed bs (l .places) (of .dataBody) (of .instanceBody) data-at instance-at (bodyIn META is) (bodyIn SEMANTIC is) (bodyIn CONTENT is) (at META) (at SEMANTIC) (at CONTENT) in
+      ∙ rows-placed bs (l .places) (of .dataBody) (of .instanceBody) data-at instance-at (bodyIn META is) (bodyIn SEMANTIC is) (bodyIn CONTENT is) (at META (permitted-parts .meta)) (at SEMANTIC (permitted-parts .semantic)) (at CONTENT (permitted-parts .content)) in
       ap (λ (s : ℕ). parts (setNumber (setAt (l .places))) s r) subtype-made
       ∙ ap (λ (x : ℕ). parts x (subtypeOf is) r) n
       ∙ ap (parts (setNumber set) (subtypeOf is)) w

@@ -8,34 +8,35 @@ use native.Mathlib.Omega.{arith}
 use lib.ListN.{length, take, drop, getD, length-append, length-drop, drop-of-length-le}
 use lib.Seq.{take-all, drop-drop}
 use lib.Dec.{eqb, lit<}
-use borrow.Author.Tests.{lt-ltb, le-leb, lt-leb, leb-true}
-use Rattle.iscc.specs.Refusals.{Refusal, notPermitted, bytesLeftOver}
+use borrow.Author.Tests.{eq-eqb, lt-ltb, le-leb, leb-true}
+use Rattle.iscc.specs.Refusals.{Refusal, notPermitted}
 use Rattle.iscc.specs.Answer.{Answer, accept, refuse, _>>=_, areaAfter}
 use Rattle.iscc.specs.Digits.{Below}
 use Rattle.iscc.specs.Header.{headerBytes}
 use Rattle.iscc.specs.Permitted.{MainType, ISCC, number, typeOf, mainTypeOf, isUnit, Set, sets, setOf, setNumber, unitTypes, unitCount, compositeSubtype, row, permits, bodyBytes}
 use Rattle.iscc.specs.Meaning.{composite, Permitted}
-use Rattle.iscc.specs.Item.{Item, itemBytes, readItem, readOne, unitBytes, writeUnit, compositeOf, meaningAs, meaningOf}
+use Rattle.iscc.specs.Item.{Item, itemBytes, readOne, unitBytes, writeUnit, compositeOf, meaningAs, meaningOf}
 use Rattle.iscc.specs.Items.{unitsOf, itemsBytes, splitBytes}
 use Rattle.iscc.specs.Forms.{unitSetAs}
 use Rattle.iscc.specs.declared.main_type.MainType as code
 use Rattle.iscc.specs.declared.tables.UnitSet.{UnitSet}
 use Rattle.iscc.proofs.Header.{length-short}
-use Rattle.iscc.proofs.Permitted.{number-type, number-back, count-most, small}
-use Rattle.iscc.proofs.Item.{PermittedItem, item-read}
-use Rattle.iscc.proofs.Split.{unitsIn}
-use Rattle.iscc.proofs.Meaning.{meant-item}
+use Rattle.iscc.proofs.Permitted.{unit-or-composite, number-type, number-back, count-most, small}
+use Rattle.iscc.proofs.Item.{PermittedItem}
+use Rattle.iscc.proofs.Items.{sameType-eq}
+use Rattle.iscc.proofs.Split.{unitsIn, one-read}
+use Rattle.iscc.proofs.Meaning.{unit-means, meant-item}
 use Rattle.units.specs.Summary.{isSubtyped}
 use Rattle.unit.specs.Forms.{headerOf}
 use Rattle.unit.specs.declared.reader.Unit.{Unit}
-use Rattle.unit.proofs.Bounds.{UnitIs, itemFrom}
+use Rattle.unit.proofs.Sole.{OneIs}
 use Rattle.unit.proofs.Table.{seven}
 use Rattle.composite.specs.declared.bodies.Composite.{Composite}
 use Rattle.composite.specs.Bodies.{parts, rows, laid, compositeAs}
 use Rattle.composite.specs.Code.{Sound, unitOf, unitAt, splitInto}
 use Rattle.units.proofs.Reached.{rest-is}
 use Rattle.composite.proofs.Parts.{laid-length, laid-same, rows-same}
-use Rattle.composite.proofs.Made.{All, all-at, five}
+use Rattle.composite.proofs.Made.{All, all-at, units-fit}
 use Rattle.composite.proofs.Bytes.{sound-of}
 
 -- ---- one unit of 64 bits
@@ -151,7 +152,7 @@ module _ (c : Composite) (ok : Sound c) where
   unit-ok i h =
       all-at (Ok (c .subtype)) (unitCount set) (unitSetAs set .units) i (record { number = 0 })
       (all-ok (c .subtype) (set .meta) (set .semantic) (set .content) (ap (λ (l : ℕ). compositeSubtype l (c .subtype)) (number-back (c .length) (ok .number)) ∙ ok .subtype))
-      h (five (set .meta) (set .semantic) (set .content))
+      h (units-fit (set .meta) (set .semantic) (set .content))
 
   pub unit-long : (i : ℕ) → i < unitCount set → length (itemBytes (unitAt c i)) ≡ 10
   unfolding unitAt
@@ -228,11 +229,11 @@ rows-in s v false false false bs n = rw (last-eight 8 bs n)
 
 -- ---- split
 
-other-type : (s v l : ℕ) (body : List ℕ) (n : ℕ) → n < 7 → eqb n 5 ≡ false → unitsOf (meaningAs (typeOf n) s v l body) ≡ refuse notPermitted
-unfolding typeOf meaningAs unitsOf
+other-type : (s v l : ℕ) (body : List ℕ) (m : MainType) → eqb (number m) 5 ≡ false → unitsOf (meaningAs m s v l body) ≡ refuse notPermitted
+unfolding unitsOf
 other-type s v l body =
-    seven (λ n. eqb n 5 ≡ false → unitsOf (meaningAs (typeOf n) s v l body) ≡ refuse notPermitted)
-    (λ _. refl) (λ _. refl) (λ _. refl) (λ _. refl) (λ _. refl) (λ e. absurd (false≢true (sym e))) (λ _. refl)
+    unit-or-composite (λ m. eqb (number m) 5 ≡ false → unitsOf (meaningAs m s v l body) ≡ refuse notPermitted)
+    (λ m u _. rw (unit-means m s v l body u)) (λ e. absurd (false≢true (sym e)))
 
 -- the composite of a header's numbers and its body, and the units that it is split into
 abbrev rowed : ℕ → ℕ → List ℕ → Composite
@@ -268,56 +269,53 @@ module _ (s v l : ℕ) (body : List ℕ) (p : PermittedItem (record { mainType =
   pub rowed-units : (unitsOf (meaningOf item) >>= λ is. accept (itemsBytes is)) ≡ accept (splitInto (rowed s l body))
   rowed-units = units-laid ∙ ap (λ (c : Composite). accept (splitInto c)) as-rows
 
-pub split-unread : (bs : List ℕ) (q : Refusal) → readItem bs ≡ refuse q → splitBytes bs ≡ refuse q
-unfolding splitBytes readOne
+pub split-unread : (bs : List ℕ) (q : Refusal) → readOne bs ≡ refuse q → splitBytes bs ≡ refuse q
+unfolding splitBytes
 split-unread bs q e = rw e
 
-module _ (bs : List ℕ) (u : Unit) (w : UnitIs bs u) where
-  pub split-left : u .used < length bs → splitBytes bs ≡ refuse bytesLeftOver
-  unfolding splitBytes readOne
-  split-left h = rw (w .is, lt-leb (length bs) (u .used) h)
+as-composite : (i : Item) (s l : ℕ) → i .mainType ≡ ISCC → i .subtype ≡ s → i .lengthNo ≡ l → i ≡ record { mainType = ISCC; subtype = s; version = i .version; lengthNo = l; body = i .body }
+as-composite i s l a b c = rw (← a, ← b, ← c)
 
-  module _ (h : length bs ≤ u .used) where
-    pub split-other : {t : Bool} → t ≡ eqb (u .«main_type» .number) 5 → t ≡ false → splitBytes bs ≡ refuse notPermitted
-    unfolding splitBytes readOne
-    split-other e f =
-        rw (w .is, le-leb (length bs) (u .used) h)
-        (rw (other-type (u .subtype) (u .version) (u .length) (take (u .used - u .start) (drop (u .start) bs)) (u .«main_type» .number) (omega (arith, w .mainType)) (sym e ∙ f)))
+module _ (bs : List ℕ) (u : Unit) (w : OneIs bs u) where
+  pub split-other : {t : Bool} → t ≡ eqb (u .«main_type» .number) 5 → t ≡ false → splitBytes bs ≡ refuse notPermitted
+  unfolding splitBytes
+  split-other e f =
+      let i : Item = w .item in
+      rw (w .is) (rw (other-type (i .subtype) (i .version) (i .lengthNo) (i .body) (i .mainType) (ap (λ (n : ℕ). eqb n 5) (w .mainType) ∙ sym e ∙ f)))
 
-    module _ (five : u .«main_type» .number ≡ 5) where
-      abbrev body : List ℕ
-      body = take (u .used - u .start) (drop (u .start) bs)
+  module _ (five : u .«main_type» .number ≡ 5) where
+    type-is : w .item .mainType ≡ ISCC
+    type-is = sameType-eq (w .item .mainType) ISCC (eq-eqb (number (w .item .mainType)) 5 (w .mainType ∙ five))
 
-      type-is : typeOf (u .«main_type» .number) ≡ ISCC
-      unfolding typeOf
-      type-is = rw five
+    pub code-room : 2 + unitCount (setOf (u .length)) * 8 ≤ length bs
+    unfolding bodyBytes
+    code-room = omega (arith, rw (type-is, w .lengthNo) at (w .whole))
 
-      body-is : body ≡ drop 2 bs
-      body-is = rw (w .start) (take-all (u .used - 2) (drop 2 bs) (omega (arith, length-drop 2 bs)))
+    abbrev splitRows : Composite
+    splitRows = parts (u .length) (u .subtype) (rows (λ i. take 8 (drop (2 + i * 8) bs)) (unitCount (setOf (u .length))) 5)
 
-      pub code-room : 2 + unitCount (setOf (u .length)) * 8 ≤ length bs
-      unfolding bodyBytes
-      code-room = omega (arith, rw type-is at (w .size), w .start, w .within)
+    same-rows : rowed (u .subtype) (u .length) (w .item .body) ≡ splitRows
+    same-rows =
+        let e : w .item .body ≡ drop 2 bs = w .body ∙ ap (λ (k : ℕ). drop k bs) (w .start) in
+        ap (parts (u .length) (u .subtype))
+        (rows-same (λ i. take 8 (drop (i * 8) (w .item .body))) (λ i. take 8 (drop (2 + i * 8) bs)) (λ i. ap (take 8) (ap (drop (i * 8)) e ∙ drop-drop (i * 8) 2 bs)) (unitCount (setOf (u .length))) 5)
 
-      abbrev splitRows : Composite
-      splitRows = parts (u .length) (u .subtype) (rows (λ i. take 8 (drop (2 + i * 8) bs)) (unitCount (setOf (u .length))) 5)
+    module _ (k : Below 256 bs) where
+      abbrev whole : Item
+      whole = record { mainType = ISCC; subtype = u .subtype; version = w .item .version; lengthNo = u .length; body = w .item .body }
 
-      same-rows : rowed (u .subtype) (u .length) body ≡ splitRows
-      same-rows =
-          ap (parts (u .length) (u .subtype))
-          (rows-same (λ i. take 8 (drop (i * 8) body)) (λ i. take 8 (drop (2 + i * 8) bs)) (λ i. ap (take 8) (ap (drop (i * 8)) body-is ∙ drop-drop (i * 8) 2 bs)) (unitCount (setOf (u .length))) 5)
+      whole-is : w .item ≡ whole
+      whole-is = as-composite (w .item) (u .subtype) (u .length) type-is (w .subtype) (w .lengthNo)
 
-      module _ (k : Below 256 bs) where
-        permitted-is : PermittedItem (record { mainType = ISCC; subtype = u .subtype; version = u .version; lengthNo = u .length; body = body })
-        permitted-is =
-            subst (λ (m : MainType). PermittedItem (record { mainType = m; subtype = u .subtype; version = u .version; lengthNo = u .length; body = body })) type-is
-            (item-read bs (record { result = itemFrom bs u; used = u .used }) k (w .is) .permitted)
+      permitted-is : PermittedItem whole
+      permitted-is = subst PermittedItem whole-is (one-read bs (w .item) k (w .is) .0)
 
-        pub split-sound : (c : Composite) → c ≡ splitRows → Sound c
-        split-sound c e = subst⁻¹ Sound (e ∙ sym same-rows) (rowed-sound (u .subtype) (u .version) (u .length) body permitted-is)
+      pub split-sound : (c : Composite) → c ≡ splitRows → Sound c
+      split-sound c e = subst⁻¹ Sound (e ∙ sym same-rows) (rowed-sound (u .subtype) (w .item .version) (u .length) (w .item .body) permitted-is)
 
-        pub split-whole : (c : Composite) → c ≡ splitRows → splitBytes bs ≡ accept (splitInto c)
-        unfolding splitBytes readOne
-        split-whole c e =
-            rw (w .is, le-leb (length bs) (u .used) h, type-is) (rowed-units (u .subtype) (u .version) (u .length) body permitted-is)
-            ∙ ap (λ (x : Composite). accept (splitInto x)) (same-rows ∙ sym e)
+      pub split-whole : (c : Composite) → c ≡ splitRows → splitBytes bs ≡ accept (splitInto c)
+      unfolding splitBytes
+      split-whole c e =
+          rw (w .is) (ap (λ (i : Item). unitsOf (meaningOf i) >>= λ is. accept (itemsBytes is)) whole-is)
+          ∙ rowed-units (u .subtype) (w .item .version) (u .length) (w .item .body) permitted-is
+          ∙ ap (λ (x : Composite). accept (splitInto x)) (same-rows ∙ sym e)

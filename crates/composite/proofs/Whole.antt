@@ -1,25 +1,23 @@
--- The one code of a list: an item comes back from its meaning, and a composite's bytes fit 42. Assumes nothing.
+-- The one code of a list: of one item its own bytes, of more the composite's, which fit 42. Assumes nothing.
 use Prim.Native.Nat.{ℕ, _≤_, _<_}
 use mathlib.Core.Path.{_≡_, refl, sym, _∙_, ap}
-use mathlib.Core.Bool.{Bool, true, false}
-use mathlib.Core.List.{List, [], _∷_, _++_, append-assoc, append-nil}
+use mathlib.Core.Bool.{true}
+use mathlib.Core.List.{List, [], _∷_, append-nil}
 use native.Mathlib.Omega.{arith}
-use lib.ListN.{length, take, drop, take-append-drop}
+use lib.ListN.{length}
 use lib.Dec.{leb}
 use borrow.Author.Tests.{le-leb}
 use Rattle.iscc.specs.Refusals.{Refusal}
 use Rattle.iscc.specs.Answer.{Answer, accept, refuse, _>>=_, into, areaAfter}
 use Rattle.iscc.specs.Digits.{Below}
-use Rattle.iscc.specs.Permitted.{MainType, META, SEMANTIC, CONTENT, DATA, INSTANCE, ISCC, ID, isUnit, setOf, setNumber, bodyBytes}
-use Rattle.iscc.specs.Meaning.{Meaning, unit, isIn, setIn, Permitted}
-use Rattle.iscc.specs.Item.{Item, itemBytes, itemOf, nextBody, behind, compositeOf, meaningAs, meaningOf, bytesIn}
+use Rattle.iscc.specs.Meaning.{Meaning, Permitted}
+use Rattle.iscc.specs.Item.{Item, itemBytes, itemOf}
 use Rattle.iscc.specs.Items.{readItems, itemsBytes, compositeFrom, meaningOfItems}
 use Rattle.iscc.specs.Forms.{writtenAs}
 use Rattle.iscc.specs.declared.written.Written.{Written}
 use Rattle.iscc.specs.declared.written.Written.the-variants as written
-use Rattle.iscc.proofs.Permitted.{small, lengthNo-back, number-back}
 use Rattle.iscc.proofs.Item.{PermittedItem, item-most}
-use Rattle.iscc.proofs.Meaning.{item-permitted}
+use Rattle.iscc.proofs.Meaning.{item-permitted, item-back}
 use Rattle.iscc.proofs.Items.{ReadAll, items-read}
 use Rattle.units.specs.declared.summary.Summary.{Summary}
 use Rattle.units.specs.Reading.{refusedIndex}
@@ -28,58 +26,6 @@ use Rattle.composite.specs.declared.code.Coded.the-variants as coded
 use Rattle.composite.specs.Joined.{Listed, composedBytes}
 use Rattle.composite.specs.Canonical.{canonicalBytes, placeOf, codedAs}
 use Rattle.composite.proofs.Joins.{one-or-more}
-
--- ---- an item comes back from its meaning
-
-next-in : (a : Bool) (bs : List ℕ) → isIn (nextBody a bs) ≡ a
-next-in true bs = refl
-next-in false bs = refl
-
-parted : (a : Bool) (bs : List ℕ) → bytesIn (nextBody a bs) ++ behind a bs ≡ bs
-parted true bs = take-append-drop 8 bs
-parted false bs = refl
-
-unit-back : (m : MainType) (s v l : ℕ) (body : List ℕ) → isUnit m ≡ true → length body ≡ bodyBytes m s l
-    → itemOf (unit m s v body) ≡ record { mainType = m; subtype = s; version = v; lengthNo = l; body = body }
-unfolding itemOf
-unit-back m s v l body u n = rw (n, lengthNo-back m s l u)
-
-composite-back : (s v l : ℕ) (bs : List ℕ) → l ≤ 7 → itemOf (compositeOf s v (setOf l) bs) ≡ record { mainType = ISCC; subtype = s; version = v; lengthNo = l; body = bs }
-unfolding itemOf compositeOf
-composite-back s v l bs h =
-    let a : Bool = setOf l .meta in
-    let b : Bool = setOf l .semantic in
-    let c : Bool = setOf l .content in
-    let bs₁ : List ℕ = behind a bs in
-    let bs₂ : List ℕ = behind b bs₁ in
-    let bs₃ : List ℕ = behind c bs₂ in
-    let x : List ℕ = bytesIn (nextBody a bs) in
-    let y : List ℕ = bytesIn (nextBody b bs₁) in
-    let z : List ℕ = bytesIn (nextBody c bs₂) in
-    let n : setNumber (setIn (nextBody a bs) (nextBody b bs₁) (nextBody c bs₂)) ≡ l = rw (next-in a bs, next-in b bs₁, next-in c bs₂) (number-back l h) in
-    let e : x ++ y ++ z ++ take 8 bs₃ ++ drop 8 bs₃ ≡ bs =
-    append-assoc (x ++ y ++ z) (take 8 bs₃) (drop 8 bs₃)
-    ∙ ap (λ (r : List ℕ). x ++ y ++ z ++ r) (take-append-drop 8 bs₃)
-    ∙ append-assoc (x ++ y) z bs₃
-    ∙ ap (λ (r : List ℕ). x ++ y ++ r) (parted c bs₂)
-    ∙ append-assoc x y bs₂
-    ∙ ap (λ (r : List ℕ). x ++ r) (parted b bs₁)
-    ∙ parted a bs in
-    rw (n, e)
-
-pub item-back : (i : Item) → PermittedItem i → itemOf (meaningOf i) ≡ i
-unfolding meaningAs
-item-back i p = go (i .mainType) (p .body .0) (small (i .mainType) (i .subtype) (i .version) (i .lengthNo) (p .header) .lengthNo)
-  where
-    go : (m : MainType) → length (i .body) ≡ bodyBytes m (i .subtype) (i .lengthNo) → i .lengthNo ≤ 7
-        → itemOf (meaningAs m (i .subtype) (i .version) (i .lengthNo) (i .body)) ≡ record { mainType = m; subtype = i .subtype; version = i .version; lengthNo = i .lengthNo; body = i .body }
-    go META n h = unit-back META (i .subtype) (i .version) (i .lengthNo) (i .body) refl n
-    go SEMANTIC n h = unit-back SEMANTIC (i .subtype) (i .version) (i .lengthNo) (i .body) refl n
-    go CONTENT n h = unit-back CONTENT (i .subtype) (i .version) (i .lengthNo) (i .body) refl n
-    go DATA n h = unit-back DATA (i .subtype) (i .version) (i .lengthNo) (i .body) refl n
-    go INSTANCE n h = unit-back INSTANCE (i .subtype) (i .version) (i .lengthNo) (i .body) refl n
-    go ISCC n h = composite-back (i .subtype) (i .version) (i .lengthNo) (i .body) h
-    go ID n h = unit-back ID (i .subtype) (i .version) (i .lengthNo) (i .body) refl n
 
 -- ---- the code of one item, and of more
 

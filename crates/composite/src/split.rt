@@ -2,28 +2,26 @@
 ghost use mathlib.Core.Path.{_≡_};
 ghost use lib.ListN.{length};
 ghost use Rattle.iscc.specs.Answer.{areaAfter};
-ghost use Rattle.iscc.specs.Item.{readItem};
+ghost use Rattle.iscc.specs.Item.{readOne};
 ghost use Rattle.iscc.specs.Items as items;
 ghost use Rattle.iscc.specs.Forms.{writtenAs};
-ghost use Rattle.unit.specs.Forms.{unitReadAs};
+ghost use Rattle.unit.specs.Forms.{oneReadAs};
 ghost use Rattle.unit.specs.declared.reader.UnitRead.the-variants as found;
 use crate::gather;
 use crate::writer;
 use iscc::main_type::MainType;
 use iscc::refusal::Refusal;
 use iscc::written::Written;
+use unit::one;
 use unit::reader::Unit;
 use unit::reader::UnitRead;
 
-// Splits the item at the front of the bytes: 19, then 8 for anything but a composite, then 15.
+// Splits the one item of the bytes: 8 for anything but a composite, then 15.
 fn split_item(bytes: &[u8], u: Unit, out: &mut [u8]) -> Written
-    requires { ⌜ unitReadAs (readItem (now bytes)) ≡ found.Unit u ⌝ }
+    requires { ⌜ oneReadAs (now bytes) (readOne (now bytes)) ≡ found.Unit u ⌝ }
     ensures answer { λ r. ⌜ r ≡ writtenAs (items.split (now (bytes .entry)) (length (now (out .entry)))) ⌝ }
     ensures area { λ r. ⌜ now (out .exit) ≡ areaAfter (items.split (now (bytes .entry)) (length (now (out .entry)))) (now (out .entry)) ⌝ }
 {
-    if u.used < bytes.len() {
-        return Written::Refused(Refusal::BYTES_LEFT_OVER);
-    }
     if !u.main_type.is(MainType::ISCC) {
         return Written::Refused(Refusal::NOT_PERMITTED);
     }
@@ -36,7 +34,7 @@ pub fn split(bytes: &[u8], out: &mut [u8]) -> Written
     ensures answer { λ r. ⌜ r ≡ writtenAs (items.split (now (bytes .entry)) (length (now (out .entry)))) ⌝ }
     ensures area { λ r. ⌜ now (out .exit) ≡ areaAfter (items.split (now (bytes .entry)) (length (now (out .entry)))) (now (out .entry)) ⌝ }
 {
-    let answer = unit::reader::read(bytes);
+    let answer = one::read(bytes);
     match answer {
         UnitRead::Refused(q) => Written::Refused(q),
         UnitRead::Unit(u) => split_item(bytes, u, out),

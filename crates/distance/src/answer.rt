@@ -24,7 +24,7 @@ impl Distance {
     };
 
     // d differing bits of n, with the ratio as one division of both counts.
-    pub fn new(d: u16, n: u16) -> Distance
+    pub(crate) fn new(d: u16, n: u16) -> Distance
         ensures { λ r. ⌜ r ≡ distanceAs (measure d n) ⌝ }
     {
         Distance {
@@ -35,7 +35,7 @@ impl Distance {
     }
 }
 
-pub fn refused(q: Refusal) -> Measured
+pub(crate) fn refused(q: Refusal) -> Measured
     ensures { λ r. ⌜ r ≡ refusedAs q ⌝ }
 {
     Measured {

@@ -13,7 +13,7 @@ fn of_bytes(x: u8, y: u8) -> u16
     n as u16
 }
 
-pub fn least(a: usize, b: usize) -> usize
+pub(crate) fn least(a: usize, b: usize) -> usize
     ensures { λ r. ⌜ r ≡ min a b ⌝ }
 {
     if a < b {
@@ -23,7 +23,7 @@ pub fn least(a: usize, b: usize) -> usize
 }
 
 // The differing bits of two bodies, as far as the shorter goes. No body is longer than 40 bytes.
-pub fn differing(a: &[u8], b: &[u8]) -> u16
+pub(crate) fn differing(a: &[u8], b: &[u8]) -> u16
     requires { ⌜ length (now a) ≤ 40 ⌝ }
     ensures { λ r. ⌜ (r ≡ differingBits (now (a .entry)) (now (b .entry))) × (r ≤ 320) ⌝ }
 {
@@ -38,7 +38,7 @@ pub fn differing(a: &[u8], b: &[u8]) -> u16
 }
 
 // The bits compared: those of the shorter body.
-pub fn compared(a: &[u8], b: &[u8]) -> u16
+pub(crate) fn compared(a: &[u8], b: &[u8]) -> u16
     requires { ⌜ length (now a) ≤ 40 ⌝ }
     ensures { λ r. ⌜ r ≡ comparedBits (now (a .entry)) (now (b .entry)) ⌝ }
 {

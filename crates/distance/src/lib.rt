@@ -1,4 +1,4 @@
 // The distance of two units.
 pub mod answer;
-pub mod bits;
+mod bits;
 pub mod units;

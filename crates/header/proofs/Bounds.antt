@@ -1,19 +1,19 @@
 -- What callers of the reader may count on: bounds of a header that was read, and the definitions' value behind the code's. Assumes nothing.
-use Prim.Native.Nat.{ℕ, _+_, _-_, _*_, _/_, _%_, _^_, _≤_, _<_}
+use Prim.Native.Nat.{ℕ, _+_, _-_, _*_, _%_, _^_, _≤_, _<_}
 use mathlib.Core.Path.{_≡_, refl, ap, subst}
-use mathlib.Core.Bool.{Bool, true, false, cond, _||_}
+use mathlib.Core.Bool.{Bool, true, false, cond}
 use mathlib.Core.List.{List}
 use native.Mathlib.Omega.{arith}
 use borrow.Author.Tests.{leb-true}
 use lib.ListN.{length, getD, take, drop, length-drop}
-use lib.Dec.{eqb, ltb, leb}
+use lib.Dec.{ltb, leb}
 use Rattle.iscc.specs.Answer.{Answer, accept, refuse}
 use Rattle.iscc.specs.Digits.{value}
 use Rattle.iscc.specs.Varnibble.{Parsed, firstOf, rowBy, readVarnibble}
 use Rattle.iscc.specs.Header.{nibbles, readHeader}
 use Rattle.iscc.specs.Header as iscc
-use Rattle.iscc.proofs.Answer.{passed, answered, accept-inj}
-use Rattle.iscc.proofs.Header.{Writable, length-nibbles}
+use Rattle.iscc.proofs.Answer.{passed, accept-inj}
+use Rattle.iscc.proofs.Header.{Writable, length-nibbles, FourRead, parsedFour, four-read}
 use Rattle.header.specs.declared.reader.RawHeader.{RawHeader}
 use Rattle.header.specs.declared.reader.HeaderRead.the-variants.{Header}
 use Rattle.header.specs.Forms.{headerFrom, rawHeaderAs, headerReadAs}
@@ -61,40 +61,24 @@ pub record HeaderBounds (bs : List ℕ) (g : Parsed iscc.Header) : Type 0 where
   pub numbers : Writable (g .result)
   pub short : g .result .mainType < 8 → g .result .subtype < 8 → g .result .version < 8 → g .result .lengthNo < 8 → g .used ≡ 2
 
--- four varnibbles that were read, one behind the other
-module _ (bs : List ℕ) (a b c d : Parsed ℕ) where
-  abbrev four : ℕ
-  four = a .used + b .used + c .used + d .used
-
-  abbrev fourOf : Parsed iscc.Header
-  fourOf = record { result = record { mainType = a .result; subtype = b .result; version = c .result; lengthNo = d .result }; used = (four + 1) / 2 }
-
-  four-bounds : NumberBounds (nibbles bs) a → NumberBounds (drop (a .used) (nibbles bs)) b → NumberBounds (drop (a .used + b .used) (nibbles bs)) c
-      → NumberBounds (drop (a .used + b .used + c .used) (nibbles bs)) d → HeaderBounds bs fourOf
-  four-bounds p q r s =
-      let last : d .used ≤ length (nibbles bs) - (a .used + b .used + c .used) = rw length-drop at (s .within) in
-      let len : length (nibbles bs) ≡ 2 * length bs = length-nibbles bs in
-      record {
-        least = omega (arith, p .some, q .some, r .some, s .some);
-        most = omega (arith, p .most, q .most, r .most, s .most);
-        within = omega (arith, s .some);
-        numbers = (p .small, q .small, r .small, s .small);
-        short = λ x y z w. omega (arith, p .short x, q .short y, r .short z, s .short w);
-      }
+four-bounds : (bs : List ℕ) (a b c d : Parsed ℕ) → FourRead bs a b c d → HeaderBounds bs (parsedFour bs a b c d)
+four-bounds bs a b c d f =
+    let p : NumberBounds (nibbles bs) a = number-bounds (nibbles bs) a (f .first) in
+    let q : NumberBounds (drop (a .used) (nibbles bs)) b = number-bounds (drop (a .used) (nibbles bs)) b (f .second) in
+    let r : NumberBounds (drop (a .used + b .used) (nibbles bs)) c = number-bounds (drop (a .used + b .used) (nibbles bs)) c (f .third) in
+    let s : NumberBounds (drop (a .used + b .used + c .used) (nibbles bs)) d = number-bounds (drop (a .used + b .used + c .used) (nibbles bs)) d (f .fourth) in
+    let last : d .used ≤ length (nibbles bs) - (a .used + b .used + c .used) = rw length-drop at (s .within) in
+    let len : length (nibbles bs) ≡ 2 * length bs = length-nibbles bs in
+    record {
+      least = omega (arith, p .some, q .some, r .some, s .some);
+      most = omega (arith, p .most, q .most, r .most, s .most);
+      within = omega (arith, s .some);
+      numbers = (p .small, q .small, r .small, s .small);
+      short = λ x y z w. omega (arith, p .short x, q .short y, r .short z, s .short w);
+    }
 
 pub header-bounds : (bs : List ℕ) (g : Parsed iscc.Header) → readHeader bs ≡ accept g → HeaderBounds bs g
-unfolding readHeader
-header-bounds bs g e =
-    let ns : List ℕ = nibbles bs in
-    let a = answered (readVarnibble ns) _ e in
-    let b = answered (readVarnibble (drop (a .0 .used) ns)) _ (a .2) in
-    let c = answered (readVarnibble (drop (a .0 .used + b .0 .used) ns)) _ (b .2) in
-    let d = answered (readVarnibble (drop (a .0 .used + b .0 .used + c .0 .used) ns)) _ (c .2) in
-    let n : ℕ = four bs (a .0) (b .0) (c .0) (d .0) in
-    let p = passed (eqb (n % 2) 0 || eqb (getD ns n 0) 0) _ _ (d .2) in
-    subst (HeaderBounds bs) (accept-inj (p .1))
-    (four-bounds bs (a .0) (b .0) (c .0) (d .0) (number-bounds ns (a .0) (a .1)) (number-bounds (drop (a .0 .used) ns) (b .0) (b .1))
-    (number-bounds (drop (a .0 .used + b .0 .used) ns) (c .0) (c .1)) (number-bounds (drop (a .0 .used + b .0 .used + c .0 .used) ns) (d .0) (d .1)))
+header-bounds bs = four-read bs (HeaderBounds bs) (four-bounds bs)
 
 -- the definitions' value behind a header in the code
 abbrev pub parsedFrom : RawHeader → Parsed iscc.Header

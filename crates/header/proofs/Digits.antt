@@ -1,39 +1,13 @@
--- Digits at a place and behind one another, over the bits v of a digit; and nibbles packed into bytes. Assumes nothing.
-use Prim.Native.Nat.{ℕ, zero, suc, _+_, _-_, _*_, _/_, _%_, _^_, _<_}
+-- Nibbles packed into bytes, as digits of one number. Assumes nothing.
+use Prim.Native.Nat.{ℕ, zero, suc, _+_, _-_, _*_, _/_, _%_, _^_}
 use mathlib.Core.Path.{_≡_, refl, sym, _∙_, ap}
 use mathlib.Core.List.{List, [], _∷_, _++_}
 use native.Mathlib.Omega.{arith}
-use native.Mathlib.Nat.{mul-add, mod-eq-of-lt}
-use lib.Arith.{digits-lt}
-use lib.Pow.{pow-add, high, low, shr-shr}
-use lib.ListN.{length, getD}
+use lib.Pow.{shr-shr}
+use lib.ListN.{length}
 use Rattle.iscc.specs.Digits.{digits}
 use Rattle.iscc.specs.Header.{packed}
-use Rattle.iscc.proofs.Digits.{length-digits, digits-below, value-digits, value-inj, digits-append, digits-snoc}
-
--- the digit at a place
-pub digit-at : (v n x i : ℕ) → i < n → x / 2 ^ (v * (n - 1 - i)) % 2 ^ v ≡ getD (digits v n x) i 0
-unfolding digits
-digit-at v zero x i h = absurd (omega arith)
-digit-at v (suc n) x zero h = ap (λ (k : ℕ). x / 2 ^ (v * k) % 2 ^ v) (omega arith)
-digit-at v (suc n) x (suc i) h = let e : suc n - 1 - suc i ≡ n - 1 - i = omega arith in rw e (digit-at v n x i (omega arith))
-
--- digits behind others: as one number
-module _ (v a c x w : ℕ) (l : x < 2 ^ (v * w)) where
-  pub digits-join : digits v (c + w) (a * 2 ^ (v * w) + x) ≡ digits v c a ++ digits v w x
-  digits-join =
-      let y : ℕ = a * 2 ^ (v * w) + x in
-      let q : y / 2 ^ (v * w) ≡ a = high a (v * w) l in
-      let r : y % 2 ^ (v * w) ≡ x % 2 ^ (v * w) = low a (v * w) l ∙ sym (mod-eq-of-lt l) in
-      let s : digits v w y ≡ digits v w x =
-      value-inj v (digits v w y) (digits v w x) (digits-below v w y) (digits-below v w x) (length-digits v w y ∙ sym (length-digits v w x))
-      (value-digits v w y ∙ r ∙ sym (value-digits v w x)) in
-      digits-append v c w y ∙ rw (q, s)
-
-  pub join-lt : a < 2 ^ (v * c) → a * 2 ^ (v * w) + x < 2 ^ (v * (c + w))
-  join-lt h = rw (mul-add v c w, pow-add 2 (v * c) (v * w)) (digits-lt h l)
-
--- ---- nibbles into bytes
+use Rattle.iscc.proofs.Digits.{length-digits, digits-snoc}
 
 pack-even : (k x : ℕ) → packed (digits 4 (k + k) x) ≡ digits 8 k x
 unfolding packed digits

@@ -12,7 +12,7 @@ use Rattle.iscc.specs.Varnibble.{Parsed, firstOf, rowBy, readVarnibble}
 use Rattle.iscc.specs.Answer.{Answer, accept, refuse, _>>_, _otherwise_}
 use Rattle.iscc.specs.Refusals.{badHeader}
 use Rattle.iscc.specs.Header.{nibbles, readHeader}
-use Rattle.iscc.proofs.Varnibble.{got, read-none, read-ones, read-cut, read-here}
+use Rattle.iscc.proofs.Varnibble.{parsed, read-none, read-ones, read-cut, read-here}
 use Rattle.iscc.proofs.Header.{length-nibbles}
 use Rattle.header.specs.declared.reader.Number.{Number}
 use Rattle.header.specs.declared.rows.Row.{Row}
@@ -79,9 +79,9 @@ stopped : (ns : List ℕ) (n : Number) → n ≡ numberAs (readVarnibble ns) →
 unfolding readVarnibble
 stopped ns n e z = only-7 (ltb 0 (length ns)) (ltb (getD ns 0 0) 15) (leb (rowBy (getD ns 0 0)) (length ns)) _ n (some-by (getD ns 0 0)) z e
 
-went : (r : Answer (Parsed ℕ)) (n : Number) → n ≡ numberAs r → (n .width ≡ 0 → ⊥) → r ≡ accept (got (n .value) (n .width))
-went (accept g) n e z = ap (λ (x : Number). accept (got (x .value) (x .width))) (sym e)
-went (refuse q) n e z = absurd (z (ap (λ (x : Number). x .width) e))
+accepted-number : (r : Answer (Parsed ℕ)) (n : Number) → n ≡ numberAs r → (n .width ≡ 0 → ⊥) → r ≡ accept (parsed (n .value) (n .width))
+accepted-number (accept g) n e z = ap (λ (x : Number). accept (parsed (x .value) (x .width))) (sym e)
+accepted-number (refuse q) n e z = absurd (z (ap (λ (x : Number). x .width) e))
 
 -- ---- the header reader's cases
 
@@ -97,32 +97,32 @@ module _ (bs : List ℕ) (n : Numbers) (f : NumbersIn bs n) where
   bad-first z = rw (stopped _ _ (f .first) z)
 
   module _ (a : n .«main_type» .width ≡ 0 → ⊥) where
-    first-is : readVarnibble (nibbles bs) ≡ accept (got (n .«main_type» .value) (n .«main_type» .width))
-    first-is = went _ _ (f .first) a
+    first-is : readVarnibble (nibbles bs) ≡ accept (parsed (n .«main_type» .value) (n .«main_type» .width))
+    first-is = accepted-number _ _ (f .first) a
 
     pub bad-second : n .subtype .width ≡ 0 → Bad
     unfolding readHeader
     bad-second z = rw (first-is, stopped _ _ (f .second) z)
 
     module _ (b : n .subtype .width ≡ 0 → ⊥) where
-      second-is : readVarnibble (drop (n .«main_type» .width) (nibbles bs)) ≡ accept (got (n .subtype .value) (n .subtype .width))
-      second-is = went _ _ (f .second) b
+      second-is : readVarnibble (drop (n .«main_type» .width) (nibbles bs)) ≡ accept (parsed (n .subtype .value) (n .subtype .width))
+      second-is = accepted-number _ _ (f .second) b
 
       pub bad-third : n .version .width ≡ 0 → Bad
       unfolding readHeader
       bad-third z = rw (first-is, second-is, stopped _ _ (f .third) z)
 
       module _ (c : n .version .width ≡ 0 → ⊥) where
-        third-is : readVarnibble (drop (n .«main_type» .width + n .subtype .width) (nibbles bs)) ≡ accept (got (n .version .value) (n .version .width))
-        third-is = went _ _ (f .third) c
+        third-is : readVarnibble (drop (n .«main_type» .width + n .subtype .width) (nibbles bs)) ≡ accept (parsed (n .version .value) (n .version .width))
+        third-is = accepted-number _ _ (f .third) c
 
         pub bad-fourth : n .length .width ≡ 0 → Bad
         unfolding readHeader
         bad-fourth z = rw (first-is, second-is, third-is, stopped _ _ (f .fourth) z)
 
         module _ (d : n .length .width ≡ 0 → ⊥) where
-          fourth-is : readVarnibble (drop (n .«main_type» .width + n .subtype .width + n .version .width) (nibbles bs)) ≡ accept (got (n .length .value) (n .length .width))
-          fourth-is = went _ _ (f .fourth) d
+          fourth-is : readVarnibble (drop (n .«main_type» .width + n .subtype .width + n .version .width) (nibbles bs)) ≡ accept (parsed (n .length .value) (n .length .width))
+          fourth-is = accepted-number _ _ (f .fourth) d
 
           module _ {p : Bool} (e : p ≡ (eqb (widths n % 2) 0 || eqb (getD (nibbles bs) (widths n) 0) 0)) where
             pub bad-pad : not p ≡ true → Bad

@@ -2,14 +2,13 @@
 use Prim.Native.Nat.{ℕ, _+_, _-_, _*_, _/_, _%_, _^_, _≤_, _<_}
 use mathlib.Core.Path.{_≡_, refl, sym, _∙_, ap}
 use mathlib.Core.Bool.{Bool, true, false, not, _&&_}
-use mathlib.Core.List.{List, [], _∷_, _++_}
+use mathlib.Core.List.{List, _++_}
 use native.Mathlib.Omega.{arith}
-use native.Mathlib.Nat.{lt-of-lt-of-le}
-use native.Mathlib.Numerals.{add-one}
-use lib.Pow.{pow-mono}
+use native.Mathlib.Nat.{lt-of-lt-of-le, mul-add}
+use lib.Arith.{digits-lt}
+use lib.Pow.{pow-mono, pow-add}
 use lib.Dec.{leb}
-use lib.ListN.{length, getD, take, set}
-use lib.Seq.{take-suc, take-all}
+use lib.ListN.{length}
 use borrow.Author.Tests.{leb-true, le-leb, lt-leb, not-true, not-false}
 use Rattle.iscc.specs.Answer.{Answer, accept, refuse, _>>=_, _>>_, _otherwise_, areaAfter}
 use Rattle.iscc.specs.Refusals.{Refusal, numberTooLarge, areaTooShort}
@@ -20,12 +19,12 @@ use Rattle.iscc.specs.Header as iscc
 use Rattle.iscc.specs.Forms.{writtenAs}
 use Rattle.iscc.specs.declared.written.Written.the-variants.{Length, Refused}
 use Rattle.iscc.proofs.Digits.{length-digits, and-true}
+use Rattle.iscc.proofs.Groups.{digits-join}
 use Rattle.iscc.proofs.Header.{Writable, raw-header}
-use Rattle.iscc.proofs.Area.{Written as Front, one-written, all-written}
 use Rattle.header.specs.declared.Header.{Header}
 use Rattle.header.specs.declared.rows.Row.{Row}
 use Rattle.header.specs.Forms.{rowAs, RowBounds, headerFrom}
-use Rattle.header.proofs.Digits.{digit-at, digits-join, join-lt, packed-even, packed-odd}
+use Rattle.header.proofs.Digits.{packed-even, packed-odd}
 
 -- ---- one varnibble more
 module _ (a c n : ℕ) (r : Row) (e : r ≡ rowAs (rowOf n)) (b : RowBounds r) (l : r .first ≤ n) (h : n < r .first + r .count) where
@@ -43,10 +42,10 @@ module _ (a c n : ℕ) (r : Row) (e : r ≡ rowAs (rowOf n)) (b : RowBounds r) (
   code-lt = rw (← size-is) (omega (arith, b .room))
 
   pub append-is : digits 4 (c + r .width) (a * r .size + code) ≡ digits 4 c a ++ varnibble n
-  append-is = rw size-is (digits-join 4 a c code (r .width) code-lt ∙ ap (λ (ns : List ℕ). digits 4 c a ++ ns) code-is)
+  append-is = rw size-is (digits-join 4 c (r .width) a code code-lt ∙ ap (λ (ns : List ℕ). digits 4 c a ++ ns) code-is)
 
   pub append-lt : a < 2 ^ (4 * c) → a * r .size + code < 2 ^ (4 * (c + r .width))
-  append-lt k = rw size-is (join-lt 4 a c code (r .width) code-lt k)
+  append-lt k = rw (size-is, mul-add 4 c (r .width), pow-add 2 (4 * c) (4 * r .width)) (digits-lt k code-lt)
 
   -- 16 nibbles fit 64 bits
   pub append-fits : c ≤ 12 → a < 2 ^ (4 * c) → a * r .size + code < 2 ^ 64
@@ -69,19 +68,6 @@ module _ (h : Header) (n x : ℕ) (e : digits 4 n x ≡ varnibble (h .«main_typ
   pub bytes-odd : (n % 2 ≡ 0 → ⊥) → digits 8 ((n + 1) / 2) (x * 16) ≡ headerBytes (headerFrom h)
   unfolding headerBytes
   bytes-odd p = packed-odd n x p ∙ ap packed e
-
--- ---- the loop that writes them
-
-pub put-more : {d area : List ℕ} (n x i : ℕ) → i < n → i < length d → Front (take i (digits 8 n x)) d area i
-    → Front (take (i + 1) (digits 8 n x)) d (set area i (x / 2 ^ (8 * (n - 1 - i)) % 256)) (i + 1)
-put-more n x i l r w =
-    let len : length (digits 8 n x) ≡ n = length-digits 8 n x in
-    let t : take (i + 1) (digits 8 n x) ≡ take i (digits 8 n x) ++ (getD (digits 8 n x) i 0 ∷ []) = rw (add-one, take-suc (digits 8 n x) i 0 (omega arith)) in
-    rw (t, digit-at 8 n x i l) (one-written (getD (digits 8 n x) i 0) w r)
-
-pub put-all : {d area : List ℕ} (n x i : ℕ) → n ≤ i → Front (take i (digits 8 n x)) d area i → area ≡ areaAfter (accept (digits 8 n x)) d
-put-all {d} n x i l w =
-    all-written w .1 ∙ ap (λ (p : List ℕ). areaAfter (accept p) d) (take-all i (digits 8 n x) (omega (arith, length-digits 8 n x)))
 
 -- ---- the writer's cases
 

@@ -46,7 +46,7 @@ const FOUR: Row = Row {
 };
 
 // The row of a first nibble.
-pub fn row_by(first: u32) -> Row
+pub(crate) fn row_by(first: u32) -> Row
     ensures { λ r. ⌜ (r ≡ rowAs (rowBy first)) × RowBounds r ⌝ }
 {
     if first < 0b1000 {
@@ -62,7 +62,7 @@ pub fn row_by(first: u32) -> Row
 }
 
 // The row of a number.
-pub fn row_of(n: u32) -> Row
+pub(crate) fn row_of(n: u32) -> Row
     requires { ⌜ n ≤ 4679 ⌝ }
     ensures { λ r. ⌜ (r ≡ rowAs (rowOf n)) × RowBounds r × (r .first ≤ n) × (n < r .first + r .count) ⌝ }
 {

@@ -5,13 +5,12 @@
 use Prim.Native.Nat.{ℕ, _≤_}
 use mathlib.Core.Path.{_≡_, refl, sym, _∙_, ap}
 use mathlib.Core.Logic.{_↔_}
-use mathlib.Core.Bool.{Bool, true, false, _&&_}
+use mathlib.Core.Bool.{true}
 use mathlib.Core.List.{List, [], _∷_, _++_}
 use native.Mathlib.Nat.{le-of-eq}
 use lib.ListN.{length, drop, replicate, length-replicate}
 use lib.Seq.{take-append-seam}
 use lib.Dec.{leb, eqb}
-use native.Mathlib.Omega.{arith}
 use borrow.Author.Tests.{le-leb, eqb-true, eq-eqb}
 use Rattle.iscc.specs.Answer.{accept, _>>=_, _>>_, _otherwise_, written}
 use Rattle.iscc.specs.Refusals.{otherText}
@@ -21,6 +20,7 @@ use Rattle.iscc.specs.Alphabet.{encode}
 use Rattle.iscc.specs.Base32.{base32}
 use Rattle.iscc.specs.Items.{Reordered}
 use Rattle.iscc.specs.Demands.{Demand3}
+use Rattle.iscc.proofs.Digits.{and-true}
 use Rattle.iscc.proofs.Order.{means-same}
 use Rattle.iscc.specs.Doors.{scheme, sameText, meaningOfText, codeOf, textOf, intake, writtenText, strict}
 use Rattle.iscc.proofs.Answer.{Accepted, accepted, value-of, passed, answered}
@@ -31,10 +31,6 @@ pub sameText-refl : (t : List ℕ) → sameText t t ≡ true
 unfolding sameText
 sameText-refl [] = refl
 sameText-refl (c ∷ cs) = rw (eq-eqb c c refl) (sameText-refl cs)
-
-and-true : (a b : Bool) → a && b ≡ true → (a ≡ true) × (b ≡ true)
-and-true true b e = (refl, e)
-and-true false b e = let z : _≡_ {A = ℕ} 0 1 = cc in absurd (omega arith)
 
 pub sameText-eq : (s t : List ℕ) → sameText s t ≡ true → s ≡ t
 unfolding sameText

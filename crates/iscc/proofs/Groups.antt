@@ -3,13 +3,14 @@
 use Prim.Native.Nat.{ℕ, zero, suc, _+_, _-_, _*_, _/_, _%_, _^_, _≤_, _<_}
 use mathlib.Core.Path.{_≡_, refl, sym, _∙_, ap, ap₂}
 use mathlib.Core.List.{List, [], _∷_, _++_, map, map-append, append-nil, append-assoc}
-use native.Mathlib.Nat.{mod-eq-of-lt, mul-assoc, add-mul, mul-add, mul-comm, mul-add-div-right, mul-add-mod-self-right, le-of-suc-le-suc, mul-suc, mul-one, mul-zero, div-one, lt-of-lt-of-le, add-zero, add-assoc}
+use native.Mathlib.Nat.{mod-eq-of-lt, mul-assoc, add-mul, mul-add, mul-comm, mul-add-div-right, mul-add-mod-self-right, le-of-suc-le-suc, mul-suc, mul-one, mul-zero, div-one, lt-of-lt-of-le, add-zero, zero-add, add-assoc}
 use native.Mathlib.Numerals.{add-one}
 use native.Mathlib.Omega.{arith}
 use lib.ListN.{length, take, drop, getD, set, length-append, length-map, length-drop}
 use lib.Seq.{take-suc, take-add, take-all, length-take-le}
 use lib.Arith.{digits-div, digits-lt}
 use lib.Pow.{pow-pos, pow-mono, pow-add, high, low, shl-lt, shr-lt, shr-shr}
+use Rattle.iscc.specs.Answer.{accept, areaAfter}
 use Rattle.iscc.specs.Digits.{digits, value, Below, digitCount, toDigits, byteCount, spareCount}
 use Rattle.iscc.specs.Alphabet.{Alphabet, charIn, encode}
 use Rattle.iscc.proofs.Digits.{length-digits, digits-below, value-digits, value-inj, value-lt, value-append, value-snoc, digits-append, digits-snoc, below-take, below-drop}
@@ -93,6 +94,9 @@ loaded-one {v} {xs} {i} {x} d s l e b =
 pub loaded-small : {v : ℕ} {xs : List ℕ} {i x : ℕ} (k : ℕ) → Loaded v xs i x → v * i ≤ k → x < 2 ^ k
 loaded-small k s h = lt-of-lt-of-le (s .bound) (pow-mono h)
 
+pub loaded-all : {v : ℕ} {xs : List ℕ} {i x : ℕ} (n : ℕ) → Loaded v xs i x → i ≡ n → (x ≡ value v (take n xs)) × (x < 2 ^ (v * n))
+loaded-all n s e = rw (← e) (s .is, s .bound)
+
 -- the next of n digits of x
 pub digits-next : (v n x i : ℕ) → i < n → digits v (i + 1) (x / 2 ^ (v * (n - (i + 1)))) ≡ digits v i (x / 2 ^ (v * (n - i))) ++ (x / 2 ^ (v * (n - 1 - i)) % 2 ^ v ∷ [])
 digits-next v n x i l =
@@ -123,6 +127,10 @@ module _ (f : ℕ → ℕ) (v n x : ℕ) where
       let e : i ≡ n = omega (arith, s .within) in
       let z : n - n ≡ 0 = omega arith in
       placed-all j n (map f (digits v n x)) (rw (e, z, mul-zero, div-one) at (s .is)) refl
+
+  -- at the front of the area
+  pub put-front : {d area : List ℕ} {i : ℕ} → Put d area 0 i → n ≤ i → area ≡ areaAfter (accept (map f (digits v n x))) d
+  put-front s h = put-all s h ∙ rw (zero-add, length-map (digits v n x) f, length-digits v n x)
 
 -- ---- a writer's loop: the first i bytes are written, as o characters
 module _ (a : Alphabet) (pos : 0 < a .bits) (bs d : List ℕ) where

@@ -16,7 +16,7 @@ use Rattle.iscc.specs.Varnibble.{rowOf, varnibble, Parsed, writeVarnibbl
 use Rattle.iscc.specs.Header.{Header, nibbles, packed, headerBytes, rawHeader, readHeader}
 use Rattle.iscc.proofs.Digits.{below-append, below-drop}
 use Rattle.iscc.proofs.Answer.{passed, answered, accept-inj}
-use Rattle.iscc.proofs.Varnibble.{length-varnibble, varnibble-below, read-varnibble, Back, varnibble-read}
+use Rattle.iscc.proofs.Varnibble.{parsed, length-varnibble, varnibble-below, read-varnibble, Back, varnibble-read}
 
 -- the pad nibble of an odd number of nibbles
 abbrev padOf : List ℕ → List ℕ
@@ -69,9 +69,6 @@ nibblesOf h = varnibble (h .mainType) ++ varnibble (h .subtype) ++ varnibble (h 
 abbrev pub Writable : Header → Type 0
 Writable h = (h .mainType ≤ 4679) × (h .subtype ≤ 4679) × (h .version ≤ 4679) × (h .lengthNo ≤ 4679)
 
-abbrev gotHeader : Header → ℕ → Parsed Header
-gotHeader h n = record { result = h; used = n }
-
 nibblesOf-below : (h : Header) → Below 16 (nibblesOf h)
 nibblesOf-below h =
     let a : List ℕ = varnibble (h .mainType) in
@@ -83,7 +80,7 @@ nibblesOf-below h =
     below-append 16 (a ++ b ++ c) d abc (varnibble-below (h .lengthNo))
 
 -- what is written reads back, whatever follows
-pub read-header : (h : Header) (rest : List ℕ) → Writable h → readHeader (headerBytes h ++ rest) ≡ accept (gotHeader h (length (headerBytes h)))
+pub read-header : (h : Header) (rest : List ℕ) → Writable h → readHeader (headerBytes h ++ rest) ≡ accept (parsed h (length (headerBytes h)))
 unfolding readHeader headerBytes
 read-header h rest w =
     let a : ℕ = h .mainType in
@@ -169,17 +166,29 @@ pub record HeaderBack (bs : List ℕ) (g : Parsed Header) : Type 0 where
 
 -- four varnibbles that were read, one behind the other
 module _ (bs : List ℕ) (a b c d : Parsed ℕ) where
-  abbrev four : ℕ
+  abbrev pub four : ℕ
   four = a .used + b .used + c .used + d .used
+
+  pub record FourRead : Type 0 where
+    pub first : readVarnibble (nibbles bs) ≡ accept a
+    pub second : readVarnibble (drop (a .used) (nibbles bs)) ≡ accept b
+    pub third : readVarnibble (drop (a .used + b .used) (nibbles bs)) ≡ accept c
+    pub fourth : readVarnibble (drop (a .used + b .used + c .used) (nibbles bs)) ≡ accept d
+    pub pad : (eqb (four % 2) 0 || eqb (getD (nibbles bs) four 0) 0) ≡ true
 
   abbrev fourOf : Header
   fourOf = record { mainType = a .result; subtype = b .result; version = c .result; lengthNo = d .result }
 
-  four-back : Back (nibbles bs) a → Back (drop (a .used) (nibbles bs)) b → Back (drop (a .used + b .used) (nibbles bs)) c
-      → Back (drop (a .used + b .used + c .used) (nibbles bs)) d → (eqb (four % 2) 0 || eqb (getD (nibbles bs) four 0) 0) ≡ true
-      → HeaderBack bs (gotHeader fourOf ((four + 1) / 2))
+  abbrev pub parsedFour : Parsed Header
+  parsedFour = parsed fourOf ((four + 1) / 2)
+
+  four-back : Below 16 (nibbles bs) → FourRead → HeaderBack bs parsedFour
   unfolding headerBytes
-  four-back ra rb rc rd p =
+  four-back k f =
+      let ra : Back (nibbles bs) a = varnibble-read (nibbles bs) a k (f .first) in
+      let rb : Back (drop (a .used) (nibbles bs)) b = varnibble-read (drop (a .used) (nibbles bs)) b (below-drop 16 (a .used) (nibbles bs) k) (f .second) in
+      let rc : Back (drop (a .used + b .used) (nibbles bs)) c = varnibble-read (drop (a .used + b .used) (nibbles bs)) c (below-drop 16 (a .used + b .used) (nibbles bs) k) (f .third) in
+      let rd : Back (drop (a .used + b .used + c .used) (nibbles bs)) d = varnibble-read (drop (a .used + b .used + c .used) (nibbles bs)) d (below-drop 16 (a .used + b .used + c .used) (nibbles bs) k) (f .fourth) in
       let len : length (nibbles bs) ≡ 2 * length bs = length-nibbles bs in
       let la : a .used ≤ length (nibbles bs) = ra .within in
       let lb : b .used ≤ length (nibbles bs) - a .used = rw length-drop at (rb .within) in
@@ -187,27 +196,25 @@ module _ (bs : List ℕ) (a b c d : Parsed ℕ) where
       let ld : d .used ≤ length (nibbles bs) - (a .used + b .used + c .used) = rw length-drop at (rd .within) in
       let l : four ≤ 2 * length bs = omega arith in
       let pad : (four % 2 ≡ 0) ⊎ (getD (nibbles bs) four 0 ≡ 0) =
-      elim (or-cases (eqb (four % 2) 0) (eqb (getD (nibbles bs) four 0) 0) p) [ inl x ↦ inl (eqb-true (four % 2) 0 x) | inr x ↦ inr (eqb-true (getD (nibbles bs) four 0) 0 x) ] in
+      elim (or-cases (eqb (four % 2) 0) (eqb (getD (nibbles bs) four 0) 0) (f .pad)) [ inl x ↦ inl (eqb-true (four % 2) 0 x) | inr x ↦ inr (eqb-true (getD (nibbles bs) four 0) 0 x) ] in
       let all : nibblesOf fourOf ≡ take four (nibbles bs) =
       rw (ra .again, rb .again, rc .again, rd .again, ← take-add (a .used) (b .used) (nibbles bs), ← take-add (a .used + b .used) (c .used) (nibbles bs), ← take-add (a .used + b .used + c .used) (d .used) (nibbles bs)) in
       record { writable = (ra .small, rb .small, rc .small, rd .small); within = omega arith; again = rw all (packed-nibbles bs four l pad) }
 
-pub header-read : (bs : List ℕ) (g : Parsed Header) → Below 256 bs → readHeader bs ≡ accept g → HeaderBack bs g
+-- what holds of every four varnibbles so read holds of a header that was read
+pub four-read {ℓ} : (bs : List ℕ) (P : Parsed Header → Type ℓ) → ((a b c d : Parsed ℕ) → FourRead bs a b c d → P (parsedFour bs a b c d))
+    → (g : Parsed Header) → readHeader bs ≡ accept g → P g
 unfolding readHeader
-header-read bs g k e =
-    let below : Below 16 (nibbles bs) = nibbles-below bs k in
+four-read bs P f g e =
     let a = answered (readVarnibble (nibbles bs)) _ e in
     let b = answered (readVarnibble (drop (a .0 .used) (nibbles bs))) _ (a .2) in
     let c = answered (readVarnibble (drop (a .0 .used + b .0 .used) (nibbles bs))) _ (b .2) in
     let d = answered (readVarnibble (drop (a .0 .used + b .0 .used + c .0 .used) (nibbles bs))) _ (c .2) in
     let p = passed (eqb (four bs (a .0) (b .0) (c .0) (d .0) % 2) 0 || eqb (getD (nibbles bs) (four bs (a .0) (b .0) (c .0) (d .0)) 0) 0) _ _ (d .2) in
-    subst (HeaderBack bs) (accept-inj (p .1))
-    (four-back bs (a .0) (b .0) (c .0) (d .0)
-    (varnibble-read (nibbles bs) (a .0) below (a .1))
-    (varnibble-read (drop (a .0 .used) (nibbles bs)) (b .0) (below-drop 16 (a .0 .used) (nibbles bs) below) (b .1))
-    (varnibble-read (drop (a .0 .used + b .0 .used) (nibbles bs)) (c .0) (below-drop 16 (a .0 .used + b .0 .used) (nibbles bs) below) (c .1))
-    (varnibble-read (drop (a .0 .used + b .0 .used + c .0 .used) (nibbles bs)) (d .0) (below-drop 16 (a .0 .used + b .0 .used + c .0 .used) (nibbles bs) below) (d .1))
-    (p .0))
+    subst P (accept-inj (p .1)) (f (a .0) (b .0) (c .0) (d .0) (record { first = a .1; second = b .1; third = c .1; fourth = d .1; pad = p .0 }))
+
+pub header-read : (bs : List ℕ) (g : Parsed Header) → Below 256 bs → readHeader bs ≡ accept g → HeaderBack bs g
+header-read bs g k e = four-read bs (HeaderBack bs) (λ a b c d. four-back bs a b c d (nibbles-below bs k)) g e
 
 -- ---- nibbles by index: nibble i is in byte i / 2
 

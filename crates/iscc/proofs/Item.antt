@@ -14,11 +14,11 @@ use Rattle.iscc.specs.Varnibble.{Parsed}
 use Rattle.iscc.specs.Header.{Header, headerBytes, readHeader}
 use Rattle.iscc.specs.Permitted.{MainType, number, mainTypeOf, isUnit, permits, bodyBytes}
 use Rattle.iscc.specs.Meaning.{Sized}
-use Rattle.iscc.specs.Item.{Item, headerOf, itemBytes, readItem, unitBytes}
+use Rattle.iscc.specs.Item.{Item, headerOf, itemWith, itemBytes, readItem, unitBytes}
 use Rattle.iscc.proofs.Answer.{passed, answered, accept-inj}
 use Rattle.iscc.proofs.Digits.{below-append, below-take, below-drop, and-true}
-use Rattle.iscc.proofs.Header.{Writable, read-header, header-below, length-short, HeaderBack, header-read}
-use Rattle.iscc.proofs.Permitted.{named-number, number-small, Small, small, body-most, named-back}
+use Rattle.iscc.proofs.Header.{Writable, read-header, header-below, length-short, header-read}
+use Rattle.iscc.proofs.Permitted.{mainTypeOf-number, mainTypeOf-back, number-small, Small, small, body-most}
 
 -- an item whose header the table permits, with a body as long as the table says
 pub record PermittedItem (i : Item) : Type 0 where
@@ -43,7 +43,7 @@ read-item i rest p =
     let l : length hb + n ≤ length bs = simp length-append (omega arith) in
     let b : take n (drop (length hb) bs) ≡ i .body = ap (take n) (drop-append-seam hb (i .body ++ rest)) ∙ take-at (i .body) rest n len in
     let u : length (hb ++ i .body) ≡ length hb + n = simp length-append (omega arith) in
-    rw (append-assoc, r, named-number (i .mainType), p .header, le-leb (length hb + n) (length bs) l, b, u)
+    rw (append-assoc, r, mainTypeOf-number (i .mainType), p .header, le-leb (length hb + n) (length bs) l, b, u)
 
 -- what is read is permitted, and written again it is the same bytes
 pub record ReadItem (bs : List ℕ) (g : Parsed Item) : Type 0 where
@@ -51,46 +51,53 @@ pub record ReadItem (bs : List ℕ) (g : Parsed Item) : Type 0 where
   pub within : g .used ≤ length bs
   pub again : itemBytes (g .result) ≡ take (g .used) bs
 
--- a header that was read, with its main type's name
+-- a header that was read, with its main type's name: the tests of the body, and the item
 module _ (bs : List ℕ) (h : Parsed Header) (m : MainType) where
   abbrev size : ℕ
   size = bodyBytes m (h .result .subtype) (h .result .lengthNo)
 
-  abbrev gotItem : Parsed Item
-  gotItem =
-      record {
-        result =
-            record {
-              mainType = m;
-              subtype = h .result .subtype;
-              version = h .result .version;
-              lengthNo = h .result .lengthNo;
-              body = take size (drop (h .used) bs);
-            };
-        used = h .used + size;
-      }
+  pub record Behind : Type 0 where
+    pub read : readHeader bs ≡ accept h
+    pub mainType : number m ≡ h .result .mainType
+    pub permitted : permits m (h .result .subtype) (h .result .version) (h .result .lengthNo) ≡ true
+    pub within : h .used + size ≤ length bs
+    pub sized : length (take size (drop (h .used) bs)) ≡ size
 
-  item-of : Below 256 bs → HeaderBack bs h → number m ≡ h .result .mainType → permits m (h .result .subtype) (h .result .version) (h .result .lengthNo) ≡ true
-      → h .used + size ≤ length bs → ReadItem bs gotItem
+  abbrev pub parsedItem : Parsed Item
+  parsedItem = record { result = itemWith m (h .result) (take size (drop (h .used) bs)); used = h .used + size }
+
+  again : Below 256 bs → Behind → ReadItem bs parsedItem
   unfolding itemBytes
-  item-of k b n p l =
-      let l′ : size ≤ length (drop (h .used) bs) = simp length-drop (omega arith) in
+  again k b =
       record {
-        permitted = record { header = p; body = (length-take-le size (drop (h .used) bs) l′, below-take 256 size (drop (h .used) bs) (below-drop 256 (h .used) bs k)) };
-        within = l;
-        again = rw (n, b .again) (sym (take-add (h .used) size bs));
+        permitted = record { header = b .permitted; body = (b .sized, below-take 256 size (drop (h .used) bs) (below-drop 256 (h .used) bs k)) };
+        within = b .within;
+        again = rw (b .mainType, header-read bs h k (b .read) .again) (sym (take-add (h .used) size bs));
       }
 
-pub item-read : (bs : List ℕ) (g : Parsed Item) → Below 256 bs → readItem bs ≡ accept g → ReadItem bs g
+-- what holds of every item behind a header that passed the tests holds of an item that was read
+pub behind-header {ℓ} : (bs : List ℕ) (P : Parsed Item → Type ℓ) → ((h : Parsed Header) (m : MainType) → Behind bs h m → P (parsedItem bs h m))
+    → (g : Parsed Item) → readItem bs ≡ accept g → P g
 unfolding readItem
-item-read bs g k e =
+behind-header bs P f g e =
     let r = answered (readHeader bs) _ e in
     let q = answered (mainTypeOf (r .0 .result .mainType)) _ (r .2) in
     let p = passed (permits (q .0) (r .0 .result .subtype) (r .0 .result .version) (r .0 .result .lengthNo)) _ _ (q .2) in
-    let w = passed (leb (r .0 .used + size bs (r .0) (q .0)) (length bs)) _ _ (p .1) in
-    subst (ReadItem bs) (accept-inj (w .1))
-    (item-of bs (r .0) (q .0) k (header-read bs (r .0) k (r .1)) (named-back (r .0 .result .mainType) (q .0) (q .1)) (p .0)
-    (leb-true (r .0 .used + size bs (r .0) (q .0)) (length bs) (w .0)))
+    let n : ℕ = size bs (r .0) (q .0) in
+    let w = passed (leb (r .0 .used + n) (length bs)) _ _ (p .1) in
+    let l : r .0 .used + n ≤ length bs = leb-true (r .0 .used + n) (length bs) (w .0) in
+    subst P (accept-inj (w .1))
+    (f (r .0) (q .0)
+    (record {
+      read = r .1;
+      mainType = mainTypeOf-back (r .0 .result .mainType) (q .0) (q .1);
+      permitted = p .0;
+      within = l;
+      sized = length-take-le n (drop (r .0 .used) bs) (simp length-drop (omega arith));
+    }))
+
+pub item-read : (bs : List ℕ) (g : Parsed Item) → Below 256 bs → readItem bs ≡ accept g → ReadItem bs g
+item-read bs g k e = behind-header bs (ReadItem bs) (λ h m. again bs h m k) g e
 
 -- ---- an item's bytes: a header of two and a body of at most 40
 
@@ -130,16 +137,13 @@ module _ (h : Header) (body : List ℕ) (m : MainType) where
   abbrev length-of : ℕ
   length-of = bodyBytes m (h .subtype) (h .lengthNo)
 
-  abbrev unit-of : Item
-  unit-of = record { mainType = m; subtype = h .subtype; version = h .version; lengthNo = h .lengthNo; body = take length-of body }
-
   unit-made : Below 256 body → number m ≡ h .mainType → permits m (h .subtype) (h .version) (h .lengthNo) ≡ true → length-of ≤ length body
       → UnitWritten h body (headerBytes h ++ take length-of body)
   unfolding itemBytes
   unit-made k n p l =
       let e : length (take length-of body) ≡ length-of = length-take-le length-of body l in
       record {
-        item = unit-of;
+        item = itemWith m h (take length-of body);
         permitted = record { header = p; body = (e, below-take 256 length-of body k) };
         header = rw n;
         bodyIs = rw e;
@@ -153,5 +157,5 @@ unit-written h body out k e =
     let p = passed (isUnit (r .0) && permits (r .0) (h .subtype) (h .version) (h .lengthNo)) _ _ (r .2) in
     let q = passed (leb (length-of h body (r .0)) (length body)) _ _ (p .1) in
     subst (UnitWritten h body) (accept-inj (q .1))
-    (unit-made h body (r .0) k (named-back (h .mainType) (r .0) (r .1)) (and-true (isUnit (r .0)) _ (p .0) .1)
+    (unit-made h body (r .0) k (mainTypeOf-back (h .mainType) (r .0) (r .1)) (and-true (isUnit (r .0)) _ (p .0) .1)
     (leb-true (length-of h body (r .0)) (length body) (q .0)))

@@ -1,8 +1,8 @@
 -- Items laid end to end, and the composite that a list makes. Assumes nothing.
 use Rattle.iscc.specs.Refusals.{Refusal}
 use Prim.Native.Nat.{ℕ, zero, suc, _≤_, _<_}
-use mathlib.Core.Path.{_≡_, refl, _∙_, subst}
-use mathlib.Core.Bool.{Bool, true, false, cond}
+use mathlib.Core.Path.{_≡_, refl, _∙_, ap, subst}
+use mathlib.Core.Bool.{Bool, true, false, cond, _&&_}
 use mathlib.Core.Option.{Option, none, some}
 use mathlib.Core.List.{List, [], _∷_, _++_, append-nil}
 use native.Mathlib.Nat.{not-suc-le-zero, le-of-suc-le-suc}
@@ -21,7 +21,7 @@ use Rattle.iscc.specs.Lists.{every, pairwise}
 use Rattle.iscc.specs.Items.{readUpTo, readItems, sameType, joinable, is64Bits, otherType, sharedSubtype, bodyIn, subtypeIn, has, subtypeOf, requiredBody, compositeFrom, meaningOfItems, itemsBytes, orMissing}
 use Rattle.iscc.proofs.Answer.{passed, answered, never, accept-inj}
 use Rattle.iscc.proofs.Digits.{and-true, below-drop}
-use Rattle.iscc.proofs.Permitted.{named-number}
+use Rattle.iscc.proofs.Permitted.{mainTypeOf-number}
 use Rattle.iscc.proofs.Item.{PermittedItem, read-item, ReadItem, item-read, length-item}
 use Rattle.iscc.proofs.Meaning.{meant-item}
 
@@ -71,8 +71,8 @@ items-read bs is k e = up-to (suc (length bs)) bs is k e
 pub sameType-eq : (a b : MainType) → sameType a b ≡ true → a ≡ b
 sameType-eq a b e =
     let n : number a ≡ number b = eqb-true (number a) (number b) e in
-    let x : mainTypeOf (number a) ≡ accept a = named-number a in
-    let y : mainTypeOf (number b) ≡ accept b = named-number b in
+    let x : mainTypeOf (number a) ≡ accept a = mainTypeOf-number a in
+    let y : mainTypeOf (number b) ≡ accept b = mainTypeOf-number b in
     cc
 
 -- the body that a list has of a main type is of eight bytes
@@ -102,64 +102,78 @@ subtype-in m f (i ∷ is) p e = go (sameType m (i .mainType)) refl (λ h. subtyp
     go false s ih h = ih h
 
 -- the subtype by the set: 5 with neither SEMANTIC nor CONTENT, 6 with META alone, and else theirs
-made : (a b c : Bool) (x y : ℕ) → (b ≡ true → x ≤ 4) → (c ≡ true → y ≤ 4)
+subtype-by-set : (a b c : Bool) (x y : ℕ) → (b ≡ true → x ≤ 4) → (c ≡ true → y ≤ 4)
     → compositeSubtype (setNumber (record { meta = a; semantic = b; content = c })) (cond b x (cond c y (cond a 6 5))) ≡ true
 unfolding compositeSubtype
-made true true true x y f g = rw (le-leb x 4 (f refl))
-made true true false x y f g = rw (le-leb x 4 (f refl))
-made true false true x y f g = rw (le-leb y 4 (g refl))
-made true false false x y f g = refl
-made false true true x y f g = rw (le-leb x 4 (f refl))
-made false true false x y f g = rw (le-leb x 4 (f refl))
-made false false true x y f g = rw (le-leb y 4 (g refl))
-made false false false x y f g = refl
+subtype-by-set true true true x y f g = rw (le-leb x 4 (f refl))
+subtype-by-set true true false x y f g = rw (le-leb x 4 (f refl))
+subtype-by-set true false true x y f g = rw (le-leb y 4 (g refl))
+subtype-by-set true false false x y f g = refl
+subtype-by-set false true true x y f g = rw (le-leb x 4 (f refl))
+subtype-by-set false true false x y f g = rw (le-leb x 4 (f refl))
+subtype-by-set false false true x y f g = rw (le-leb y 4 (g refl))
+subtype-by-set false false false x y f g = refl
 
-row-4 : (s l : ℕ) → row SEMANTIC s l ≡ true → s ≤ 4
-unfolding row
-row-4 s l e = leb-true s 4 (and-true (leb s 4) (leb l 7) e .0)
+most-4 : (s l : ℕ) → leb s 4 && leb l 7 ≡ true → s ≤ 4
+most-4 s l e = leb-true s 4 (and-true (leb s 4) (leb l 7) e .0)
 
-row-4′ : (s l : ℕ) → row CONTENT s l ≡ true → s ≤ 4
-unfolding row
-row-4′ s l e = leb-true s 4 (and-true (leb s 4) (leb l 7) e .0)
-
-demanded-some : (r : Refusal) (o : Option (List ℕ)) (body : List ℕ) → orMissing r o ≡ accept body → o ≡ some body
+required : (r : Refusal) (o : Option (List ℕ)) (body : List ℕ) → orMissing r o ≡ accept body → o ≡ some body
 unfolding orMissing
-demanded-some r none body e = absurd (never e)
-demanded-some r (some x) body e = cc
+required r none body e = absurd (never e)
+required r (some x) body e = ap some (accept-inj e)
 
-pub composed-permitted : (is : List Item) (m : Meaning) → AllPermitted is → compositeFrom is ≡ accept m → Permitted m
-unfolding compositeFrom subtypeOf
-composed-permitted is m p e =
+-- a list that makes a composite: its tests, and DATA's and INSTANCE's bodies
+pub record CompositeParts (is : List Item) (m : Meaning) : Type 0 where
+  pub dataBody : List ℕ
+  pub instanceBody : List ℕ
+  pub dataIn : bodyIn DATA is ≡ some dataBody
+  pub instanceIn : bodyIn INSTANCE is ≡ some instanceBody
+  pub eight : every is64Bits is ≡ true
+  pub shared : pairwise sharedSubtype is ≡ true
+  pub meaning : composite (subtypeOf is) 0 (bodyIn META is) (bodyIn SEMANTIC is) (bodyIn CONTENT is) dataBody instanceBody ≡ m
+
+pub compositeFrom-parts : (is : List Item) (m : Meaning) → compositeFrom is ≡ accept m → CompositeParts is m
+unfolding compositeFrom
+compositeFrom-parts is m e =
     let e₁ = passed (every joinable is) _ _ e in
     let e₂ = passed (every is64Bits is) _ _ (e₁ .1) in
     let e₃ = passed (pairwise otherType is) _ _ (e₂ .1) in
     let e₄ = answered (requiredBody DATA is) _ (e₃ .1) in
     let e₅ = answered (requiredBody INSTANCE is) _ (e₄ .2) in
     let e₆ = passed (pairwise sharedSubtype is) _ _ (e₅ .2) in
-    let da : List ℕ = e₄ .0 in
-    let ins : List ℕ = e₅ .0 in
-    let c : Meaning = composite (subtypeOf is) 0 (bodyIn META is) (bodyIn SEMANTIC is) (bodyIn CONTENT is) da ins in
-    let same : c ≡ m = let z = e₆ .1 in cc in
-    let good : Permitted c =
     record {
+      dataBody = e₄ .0;
+      instanceBody = e₅ .0;
+      dataIn = required _ (bodyIn DATA is) (e₄ .0) (e₄ .1);
+      instanceIn = required _ (bodyIn INSTANCE is) (e₅ .0) (e₅ .1);
+      eight = e₂ .0;
+      shared = e₆ .0;
+      meaning = accept-inj (e₆ .1);
+    }
+
+pub compositeFrom-permitted : (is : List Item) (m : Meaning) → AllPermitted is → compositeFrom is ≡ accept m → Permitted m
+unfolding subtypeOf row
+compositeFrom-permitted is m p e =
+    let k : CompositeParts is m = compositeFrom-parts is m e in
+    subst Permitted (k .meaning)
+    (record {
       subtype =
-          made (has META is) (has SEMANTIC is) (has CONTENT is) (subtypeIn SEMANTIC is) (subtypeIn CONTENT is)
-          (subtype-in SEMANTIC row-4 is p)
-          (subtype-in CONTENT row-4′ is p);
+          subtype-by-set (has META is) (has SEMANTIC is) (has CONTENT is) (subtypeIn SEMANTIC is) (subtypeIn CONTENT is)
+          (subtype-in SEMANTIC most-4 is p)
+          (subtype-in CONTENT most-4 is p);
       version = refl;
-      meta = eight-in META is p (e₂ .0);
-      semantic = eight-in SEMANTIC is p (e₂ .0);
-      content = eight-in CONTENT is p (e₂ .0);
-      dataBody = subst Eight (demanded-some _ (bodyIn DATA is) da (e₄ .1)) (eight-in DATA is p (e₂ .0));
-      instanceBody = subst Eight (demanded-some _ (bodyIn INSTANCE is) ins (e₅ .1)) (eight-in INSTANCE is p (e₂ .0));
-    } in
-    subst Permitted same good
+      meta = eight-in META is p (k .eight);
+      semantic = eight-in SEMANTIC is p (k .eight);
+      content = eight-in CONTENT is p (k .eight);
+      dataBody = subst Eight (k .dataIn) (eight-in DATA is p (k .eight));
+      instanceBody = subst Eight (k .instanceIn) (eight-in INSTANCE is p (k .eight));
+    })
 
 pub means-permitted : (is : List Item) (m : Meaning) → AllPermitted is → meaningOfItems is ≡ accept m → Permitted m
 unfolding meaningOfItems
 means-permitted [] m p e = absurd (never e)
 means-permitted (i ∷ []) m p e = let same : meaningOf i ≡ m = cc in subst Permitted same (meant-item i (p .0))
-means-permitted (i ∷ j ∷ is) m p e = composed-permitted (i ∷ j ∷ is) m p e
+means-permitted (i ∷ j ∷ is) m p e = compositeFrom-permitted (i ∷ j ∷ is) m p e
 
 -- ---- items laid end to end are read one by one as they went in
 

@@ -57,3 +57,8 @@ filled {xs} {d} {area} {j} w e =
 pub refused : (d : List ℕ) {x : Answer (List ℕ)} {q : Refusal} {r : code.Written} → x ≡ refuse q → r ≡ Refused q →
     (r ≡ writtenAs (into (length d) x)) × (d ≡ areaAfter (into (length d) x) d)
 refused d e p = rw e (p, refl)
+
+-- a call that answers as y does answers as x does, where the two are the same
+pub answers-same : {x y : Answer (List ℕ)} {area : List ℕ} {r : code.Written} (d : List ℕ) → x ≡ y → r ≡ writtenAs (into (length d) y) → area ≡ areaAfter (into (length d) y) d →
+    (r ≡ writtenAs (into (length d) x)) × (area ≡ areaAfter (into (length d) x) d)
+answers-same d e p q = rw e (p, q)

@@ -19,7 +19,7 @@ and-assoc : (a b c : Bool) → a && (b && c) ≡ (a && b) && c
 and-assoc true b c = refl
 and-assoc false b c = refl
 
-and-four : (a b c d : Bool) → (a && b) && (c && d) ≡ (a && c) && (b && d)
+pub and-four : (a b c d : Bool) → (a && b) && (c && d) ≡ (a && c) && (b && d)
 and-four true true c d = refl
 and-four true false true d = refl
 and-four true false false d = refl

@@ -12,7 +12,7 @@ use Rattle.iscc.specs.Permitted.{MainType, META, SEMANTIC, CONTENT, DATA
 use Rattle.iscc.specs.Meaning.{Meaning, unit, composite, isIn, Sized, Eight, Permitted}
 use Rattle.iscc.specs.Item.{Item, nextBody, behind, compositeOf, meaningAs, meaningOf, lengthNoOf, bytesIn, itemOf}
 use Rattle.iscc.proofs.Digits.{below-append, below-take, below-drop}
-use Rattle.iscc.proofs.Permitted.{Small, small, lengthNo-back, set-back, number-back, composite-permits, permits-composite}
+use Rattle.iscc.proofs.Permitted.{Small, small, unit-or-composite, lengthNo-back, set-back, number-back, composite-permits, permits-composite}
 use Rattle.iscc.proofs.Item.{PermittedItem}
 
 -- ---- a body that is in or not, in front of the others
@@ -51,7 +51,7 @@ below-behind false bs k = k
 
 -- ---- from a meaning to its item and back
 
-unit-means : (m : MainType) (s v l : ℕ) (body : List ℕ) → isUnit m ≡ true → meaningAs m s v l body ≡ unit m s v body
+pub unit-means : (m : MainType) (s v l : ℕ) (body : List ℕ) → isUnit m ≡ true → meaningAs m s v l body ≡ unit m s v body
 unfolding meaningAs
 unit-means META s v l body u = refl
 unit-means SEMANTIC s v l body u = refl
@@ -92,81 +92,83 @@ item-permitted (composite s v me se co da ins) p =
       );
     }
 
--- ---- what a permitted item means is permitted
-
-composite-permitted : (s v l : ℕ) (bs : List ℕ) → permits ISCC s v l ≡ true → Sized (bodyBytes ISCC s l) bs → Permitted (compositeOf s v (setOf l) bs)
-unfolding compositeOf bodyBytes
-composite-permitted s v l bs p z =
-    let a : Bool = setOf l .meta in
-    let b : Bool = setOf l .semantic in
-    let c : Bool = setOf l .content in
-    let bs₁ : List ℕ = behind a bs in
-    let bs₂ : List ℕ = behind b bs₁ in
-    let bs₃ : List ℕ = behind c bs₂ in
-    let sm : Small s v l = small ISCC s v l p in
-    let n : length bs ≡ (weight 1 a + weight 1 b + weight 1 c + 2) * 8 = z .0 in
-    let n₁ : length bs₁ ≡ length bs - weight 1 a * 8 = length-behind a bs in
-    let n₂ : length bs₂ ≡ length bs₁ - weight 1 b * 8 = length-behind b bs₁ in
-    let n₃ : length bs₃ ≡ length bs₂ - weight 1 c * 8 = length-behind c bs₂ in
-    let k₁ : Below 256 bs₁ = below-behind a bs (z .1) in
-    let k₂ : Below 256 bs₂ = below-behind b bs₁ k₁ in
-    let k₃ : Below 256 bs₃ = below-behind c bs₂ k₂ in record {
-      subtype = rw (isIn-next a bs, isIn-next b bs₁, isIn-next c bs₂, number-back l (sm .lengthNo)) (permits-composite s v l p);
-      version = sm .version;
-      meta = eight-next a bs (omega arith) (z .1);
-      semantic = eight-next b bs₁ (omega arith) k₁;
-      content = eight-next c bs₂ (omega arith) k₂;
-      dataBody = (length-take-le 8 bs₃ (omega arith), below-take 256 8 bs₃ k₃);
-      instanceBody = (rw (length-drop 8 bs₃) (omega arith), below-drop 256 8 bs₃ k₃);
-    }
-
-pub meant-item : (i : Item) → PermittedItem i → Permitted (meaningOf i)
-unfolding meaningAs
-meant-item i p = go (i .mainType) (i .subtype) (i .version) (i .lengthNo) (i .body) (p .header) (p .body)
-  where
-    go : (m : MainType) (s v l : ℕ) (body : List ℕ) → permits m s v l ≡ true → Sized (bodyBytes m s l) body → Permitted (meaningAs m s v l body)
-    go META s v l body h z = record { lengthNo = l; single = refl; header = h; sized = z }
-    go SEMANTIC s v l body h z = record { lengthNo = l; single = refl; header = h; sized = z }
-    go CONTENT s v l body h z = record { lengthNo = l; single = refl; header = h; sized = z }
-    go DATA s v l body h z = record { lengthNo = l; single = refl; header = h; sized = z }
-    go INSTANCE s v l body h z = record { lengthNo = l; single = refl; header = h; sized = z }
-    go ISCC s v l body h z = composite-permitted s v l body h z
-    go ID s v l body h z = record { lengthNo = l; single = refl; header = h; sized = z }
-
--- ---- from a permitted item to its meaning and back
+-- ---- the bodies of a composite, one behind the other
 
 next-behind : (a : Bool) (bs : List ℕ) → bytesIn (nextBody a bs) ++ behind a bs ≡ bs
 next-behind true bs = take-append-drop 8 bs
 next-behind false bs = refl
 
-five : (a b c d e : List ℕ) → a ++ b ++ c ++ d ++ e ≡ a ++ (b ++ (c ++ (d ++ e)))
-five a b c d e = simp append-assoc
+append-five : (a b c d e : List ℕ) → a ++ b ++ c ++ d ++ e ≡ a ++ (b ++ (c ++ (d ++ e)))
+append-five a b c d e = simp append-assoc
 
-composite-back : (s v l : ℕ) (bs : List ℕ) → l ≤ 7
-    → itemOf (compositeOf s v (setOf l) bs) ≡ record { mainType = ISCC; subtype = s; version = v; lengthNo = l; body = bs }
-unfolding itemOf compositeOf
-composite-back s v l bs h =
-    let a : Bool = setOf l .meta in
-    let b : Bool = setOf l .semantic in
-    let c : Bool = setOf l .content in
-    let bs₁ : List ℕ = behind a bs in
-    let bs₂ : List ℕ = behind b bs₁ in
-    let bs₃ : List ℕ = behind c bs₂ in
-    let whole : bytesIn (nextBody a bs) ++ bytesIn (nextBody b bs₁) ++ bytesIn (nextBody c bs₂) ++ take 8 bs₃ ++ drop 8 bs₃ ≡ bs =
-    five (bytesIn (nextBody a bs)) (bytesIn (nextBody b bs₁)) (bytesIn (nextBody c bs₂)) (take 8 bs₃) (drop 8 bs₃)
-    ∙ rw (take-append-drop 8 bs₃, next-behind c bs₂, next-behind b bs₁, next-behind a bs) in
-    rw (isIn-next a bs, isIn-next b bs₁, isIn-next c bs₂, number-back l h, whole)
+module _ (s v l : ℕ) (bs : List ℕ) where
+  abbrev a : Bool
+  a = setOf l .meta
+
+  abbrev b : Bool
+  b = setOf l .semantic
+
+  abbrev c : Bool
+  c = setOf l .content
+
+  abbrev bs₁ : List ℕ
+  bs₁ = behind a bs
+
+  abbrev bs₂ : List ℕ
+  bs₂ = behind b bs₁
+
+  abbrev bs₃ : List ℕ
+  bs₃ = behind c bs₂
+
+  composite-permitted : permits ISCC s v l ≡ true → Sized (bodyBytes ISCC s l) bs → Permitted (compositeOf s v (setOf l) bs)
+  unfolding compositeOf bodyBytes
+  composite-permitted p z =
+      let sm : Small s v l = small ISCC s v l p in
+      let n : length bs ≡ (weight 1 a + weight 1 b + weight 1 c + 2) * 8 = z .0 in
+      let n₁ : length bs₁ ≡ length bs - weight 1 a * 8 = length-behind a bs in
+      let n₂ : length bs₂ ≡ length bs₁ - weight 1 b * 8 = length-behind b bs₁ in
+      let n₃ : length bs₃ ≡ length bs₂ - weight 1 c * 8 = length-behind c bs₂ in
+      let k₁ : Below 256 bs₁ = below-behind a bs (z .1) in
+      let k₂ : Below 256 bs₂ = below-behind b bs₁ k₁ in
+      let k₃ : Below 256 bs₃ = below-behind c bs₂ k₂ in record {
+        subtype = rw (isIn-next a bs, isIn-next b bs₁, isIn-next c bs₂, number-back l (sm .lengthNo)) (permits-composite s v l p);
+        version = sm .version;
+        meta = eight-next a bs (omega arith) (z .1);
+        semantic = eight-next b bs₁ (omega arith) k₁;
+        content = eight-next c bs₂ (omega arith) k₂;
+        dataBody = (length-take-le 8 bs₃ (omega arith), below-take 256 8 bs₃ k₃);
+        instanceBody = (rw (length-drop 8 bs₃) (omega arith), below-drop 256 8 bs₃ k₃);
+      }
+
+  composite-back : l ≤ 7 → itemOf (compositeOf s v (setOf l) bs) ≡ record { mainType = ISCC; subtype = s; version = v; lengthNo = l; body = bs }
+  unfolding itemOf compositeOf
+  composite-back h =
+      let whole : bytesIn (nextBody a bs) ++ bytesIn (nextBody b bs₁) ++ bytesIn (nextBody c bs₂) ++ take 8 bs₃ ++ drop 8 bs₃ ≡ bs =
+      append-five (bytesIn (nextBody a bs)) (bytesIn (nextBody b bs₁)) (bytesIn (nextBody c bs₂)) (take 8 bs₃) (drop 8 bs₃)
+      ∙ rw (take-append-drop 8 bs₃, next-behind c bs₂, next-behind b bs₁, next-behind a bs) in
+      rw (isIn-next a bs, isIn-next b bs₁, isIn-next c bs₂, number-back l h, whole)
+
+-- ---- what a permitted item means is permitted, and the item comes back from it
+
+module _ (s v l : ℕ) (body : List ℕ) where
+  abbrev Meant : MainType → Type 0
+  Meant m = permits m s v l ≡ true → Sized (bodyBytes m s l) body → Permitted (meaningAs m s v l body)
+
+  abbrev Back : MainType → Type 0
+  Back m = permits m s v l ≡ true → Sized (bodyBytes m s l) body → itemOf (meaningAs m s v l body) ≡ record { mainType = m; subtype = s; version = v; lengthNo = l; body = body }
+
+  meant-by : (m : MainType) → Meant m
+  unfolding meaningAs
+  meant-by =
+      unit-or-composite Meant (λ m u h z. rw (unit-means m s v l body u) (record { lengthNo = l; single = u; header = h; sized = z })) (composite-permitted s v l body)
+
+  back-by : (m : MainType) → Back m
+  unfolding meaningAs itemOf
+  back-by =
+      unit-or-composite Back (λ m u h z. rw (unit-means m s v l body u, z .0, lengthNo-back m s l u)) (λ h z. composite-back s v l body (small ISCC s v l h .lengthNo))
+
+pub meant-item : (i : Item) → PermittedItem i → Permitted (meaningOf i)
+meant-item i p = meant-by (i .subtype) (i .version) (i .lengthNo) (i .body) (i .mainType) (p .header) (p .body)
 
 pub item-back : (i : Item) → PermittedItem i → itemOf (meaningOf i) ≡ i
-unfolding meaningAs itemOf
-item-back i p = go (i .mainType) (i .subtype) (i .version) (i .lengthNo) (i .body) (p .header) (p .body .0)
-  where
-    go : (m : MainType) (s v l : ℕ) (body : List ℕ) → permits m s v l ≡ true → length body ≡ bodyBytes m s l
-        → itemOf (meaningAs m s v l body) ≡ record { mainType = m; subtype = s; version = v; lengthNo = l; body = body }
-    go META s v l body h z = rw (z, lengthNo-back META s l refl)
-    go SEMANTIC s v l body h z = rw (z, lengthNo-back SEMANTIC s l refl)
-    go CONTENT s v l body h z = rw (z, lengthNo-back CONTENT s l refl)
-    go DATA s v l body h z = rw (z, lengthNo-back DATA s l refl)
-    go INSTANCE s v l body h z = rw (z, lengthNo-back INSTANCE s l refl)
-    go ISCC s v l body h z = composite-back s v l body (small ISCC s v l h .lengthNo)
-    go ID s v l body h z = rw (z, lengthNo-back ID s l refl)
+item-back i p = back-by (i .subtype) (i .version) (i .lengthNo) (i .body) (i .mainType) (p .header) (p .body)

@@ -14,6 +14,7 @@ use Rattle.iscc.specs.Item.{Item}
 use Rattle.iscc.specs.Lists.{every, pairwise}
 use Rattle.iscc.specs.Items.{sameType, joinable, is64Bits, otherType, hasSubtype, sharedSubtype, bodyIn, subtypeIn, subtypeOf, compositeFrom, meaningOfItems, Reordered, nil, keep, swap, then}
 use Rattle.iscc.proofs.Digits.{and-true}
+use Rattle.iscc.proofs.Lists.{and-four}
 use Rattle.iscc.proofs.Items.{sameType-eq}
 
 and-swap : (a b c : Bool) → a && (b && c) ≡ b && (a && c)
@@ -21,29 +22,23 @@ and-swap true b c = refl
 and-swap false true c = refl
 and-swap false false c = refl
 
-and-four : (a b c d : Bool) → (a && b) && (c && d) ≡ (a && c) && (b && d)
-and-four true true c d = refl
-and-four true false true d = refl
-and-four true false false d = refl
-and-four false b c d = refl
-
 pub eqb-comm : (x y : ℕ) → eqb x y ≡ eqb y x
 eqb-comm x y = elim (ℕ-discrete x y) [ yes e ↦ rw e | no d ↦ ne-eqb x y d ∙ sym (ne-eqb y x (λ e. d (sym e))) ]
 
-every-same : (p : Item → Bool) {is js : List Item} → Reordered is js → every p is ≡ every p js
+every-reordered : (p : Item → Bool) {is js : List Item} → Reordered is js → every p is ≡ every p js
 unfolding every
-every-same p nil = refl
-every-same p (keep i r) = rw (every-same p r)
-every-same p (swap i j is) = and-swap (p i) (p j) (every p is)
-every-same p (then r q) = every-same p r ∙ every-same p q
+every-reordered p nil = refl
+every-reordered p (keep i r) = rw (every-reordered p r)
+every-reordered p (swap i j is) = and-swap (p i) (p j) (every p is)
+every-reordered p (then r q) = every-reordered p r ∙ every-reordered p q
 
 -- a relation that does not look at the order
-pairwise-same : (r : Item → Item → Bool) → ((i j : Item) → r i j ≡ r j i) → {is js : List Item} → Reordered is js → pairwise r is ≡ pairwise r js
+pairwise-reordered : (r : Item → Item → Bool) → ((i j : Item) → r i j ≡ r j i) → {is js : List Item} → Reordered is js → pairwise r is ≡ pairwise r js
 unfolding pairwise every
-pairwise-same r c nil = refl
-pairwise-same r c (keep i q) = rw (pairwise-same r c q, every-same (r i) q)
-pairwise-same r c (swap i j is) = rw (c i j) (and-four (r j i) (every (r i) is) (every (r j) is) (pairwise r is))
-pairwise-same r c (then p q) = pairwise-same r c p ∙ pairwise-same r c q
+pairwise-reordered r c nil = refl
+pairwise-reordered r c (keep i q) = rw (pairwise-reordered r c q, every-reordered (r i) q)
+pairwise-reordered r c (swap i j is) = rw (c i j) (and-four (r j i) (every (r i) is) (every (r j) is) (pairwise r is))
+pairwise-reordered r c (then p q) = pairwise-reordered r c p ∙ pairwise-reordered r c q
 
 type-comm : (i j : Item) → otherType i j ≡ otherType j i
 type-comm i j = ap not (eqb-comm (number (i .mainType)) (number (j .mainType)))
@@ -61,7 +56,7 @@ abbrev distinct : List Item → Bool
 distinct is = pairwise otherType is
 
 distinct-same : {is js : List Item} → Reordered is js → distinct is ≡ distinct js
-distinct-same r = pairwise-same otherType type-comm r
+distinct-same r = pairwise-reordered otherType type-comm r
 
 -- the first of a main type, in a list that has no main type twice
 first-same : {X : Type 0} (m i j : MainType) (x y z : X) → not (sameType i j) ≡ true → cond (sameType m i) x (cond (sameType m j) y z) ≡ cond (sameType m j) y (cond (sameType m i) x z)
@@ -103,18 +98,18 @@ subtypeIn-same m (keep i {is} r) d = let t : distinct is ≡ true = distinct-tai
 subtypeIn-same m (swap i j is) d = first-same m (i .mainType) (j .mainType) (i .subtype) (j .subtype) (subtypeIn m is) (distinct-pair i j is d)
 subtypeIn-same m (then r q) d = subtypeIn-same m r d ∙ subtypeIn-same m q (sym (distinct-same r) ∙ d)
 
-pub composed-same : {is js : List Item} → Reordered is js → compositeFrom is ≡ compositeFrom js
+pub compositeFrom-same : {is js : List Item} → Reordered is js → compositeFrom is ≡ compositeFrom js
 unfolding compositeFrom subtypeOf
-composed-same {is} {js} r = go (distinct is) refl
+compositeFrom-same {is} {js} r = go (distinct is) refl
   where
     go : (b : Bool) → distinct is ≡ b → compositeFrom is ≡ compositeFrom js
     go true d =
         let f : (m : MainType) → bodyIn m is ≡ bodyIn m js = λ m. bodyIn-same m r d in
         let g : (m : MainType) → subtypeIn m is ≡ subtypeIn m js = λ m. subtypeIn-same m r d in
-        rw (every-same joinable r, every-same is64Bits r, distinct-same r, pairwise-same sharedSubtype subtype-comm r, f META, f SEMANTIC, f CONTENT, f DATA, f INSTANCE, g SEMANTIC, g CONTENT)
+        rw (every-reordered joinable r, every-reordered is64Bits r, distinct-same r, pairwise-reordered sharedSubtype subtype-comm r, f META, f SEMANTIC, f CONTENT, f DATA, f INSTANCE, g SEMANTIC, g CONTENT)
     go false d =
         let d′ : distinct js ≡ false = sym (distinct-same r) ∙ d in
-        rw (every-same joinable r, every-same is64Bits r, d, d′)
+        rw (every-reordered joinable r, every-reordered is64Bits r, d, d′)
 
 length-same : {is js : List Item} → Reordered is js → length is ≡ length js
 length-same nil = refl
@@ -127,12 +122,12 @@ unfolding meaningOfItems
 kept-means i [] [] r = refl
 kept-means i [] (k ∷ js) r = let l : 0 ≡ suc (length js) = length-same r in absurd (omega arith)
 kept-means i (j ∷ is) [] r = let l : suc (length is) ≡ 0 = length-same r in absurd (omega arith)
-kept-means i (j ∷ is) (k ∷ js) r = composed-same (keep i r)
+kept-means i (j ∷ is) (k ∷ js) r = compositeFrom-same (keep i r)
 
 -- what a list means, or the refusal, is the same whatever its order
 pub means-same : {is js : List Item} → Reordered is js → meaningOfItems is ≡ meaningOfItems js
 unfolding meaningOfItems
 means-same nil = refl
 means-same (keep i {is} {js} r) = kept-means i is js r
-means-same (swap i j is) = composed-same (swap i j is)
+means-same (swap i j is) = compositeFrom-same (swap i j is)
 means-same (then r q) = means-same r ∙ means-same q

@@ -13,25 +13,35 @@ use Rattle.iscc.proofs.Answer.{accept-inj, passed}
 use Rattle.iscc.proofs.Digits.{and-true}
 use Rattle.iscc.proofs.Table.{upTo, at}
 
-pub named-number : (m : MainType) → mainTypeOf (number m) ≡ accept m
+pub mainTypeOf-number : (m : MainType) → mainTypeOf (number m) ≡ accept m
 unfolding mainTypeOf typeOf
-named-number META = refl
-named-number SEMANTIC = refl
-named-number CONTENT = refl
-named-number DATA = refl
-named-number INSTANCE = refl
-named-number ISCC = refl
-named-number ID = refl
+mainTypeOf-number META = refl
+mainTypeOf-number SEMANTIC = refl
+mainTypeOf-number CONTENT = refl
+mainTypeOf-number DATA = refl
+mainTypeOf-number INSTANCE = refl
+mainTypeOf-number ISCC = refl
+mainTypeOf-number ID = refl
 
 pub number-type : (n : ℕ) → n < 7 → number (typeOf n) ≡ n
 unfolding typeOf upTo
 number-type n h = eqb-true (number (typeOf n)) n (at 7 (λ k. eqb (number (typeOf k)) k) refl n h)
 
-pub named-back : (n : ℕ) (m : MainType) → mainTypeOf n ≡ accept m → number m ≡ n
+pub mainTypeOf-back : (n : ℕ) (m : MainType) → mainTypeOf n ≡ accept m → number m ≡ n
 unfolding mainTypeOf
-named-back n m e =
+mainTypeOf-back n m e =
     let p = passed (ltb n 7) _ (accept (typeOf n)) e in
     ap number (sym (accept-inj (p .1))) ∙ number-type n (ltb-true n 7 (p .0))
+
+-- a main type is a unit's, or a composite's
+pub unit-or-composite {ℓ} : (P : MainType → Type ℓ) → ((m : MainType) → isUnit m ≡ true → P m) → P ISCC → (m : MainType) → P m
+unit-or-composite P f g META = f META refl
+unit-or-composite P f g SEMANTIC = f SEMANTIC refl
+unit-or-composite P f g CONTENT = f CONTENT refl
+unit-or-composite P f g DATA = f DATA refl
+unit-or-composite P f g INSTANCE = f INSTANCE refl
+unit-or-composite P f g ISCC = g
+unit-or-composite P f g ID = f ID refl
 
 pub number-small : (m : MainType) → number m ≤ 6
 number-small META = lit≤ tt

@@ -1,7 +1,7 @@
 -- A composite split into its units, and joined again. Assumes nothing.
 use Prim.Native.Nat.{ℕ, _≤_, _<_}
 use mathlib.Core.Path.{_≡_, refl, sym, _∙_, ap, subst}
-use mathlib.Core.Bool.{Bool, true, false, cond, false≢true}
+use mathlib.Core.Bool.{Bool, true, false, cond, _&&_, false≢true}
 use mathlib.Core.Option.{Option, none, some}
 use mathlib.Core.List.{List, [], _∷_, _++_, append-nil, append-assoc}
 use native.Mathlib.Nat.{le-refl, not-suc-le-zero}
@@ -21,7 +21,7 @@ use Rattle.iscc.proofs.Answer.{passed, answered, accept-inj, never}
 use Rattle.iscc.specs.Refusals.{lacksDataOrInstance}
 use lib.Seq.{take-all}
 use Rattle.iscc.proofs.Meaning.{meaning-back, item-permitted}
-use Rattle.iscc.proofs.Items.{AllPermitted, read-items, items-read, composed-permitted}
+use Rattle.iscc.proofs.Items.{AllPermitted, read-items, items-read, compositeFrom-permitted}
 
 -- the units of a composite
 abbrev pub unitsIn : ℕ → Option (List ℕ) → Option (List ℕ) → Option (List ℕ) → List ℕ → List ℕ → List Item
@@ -81,13 +81,8 @@ module _ (s : ℕ) (da ins : List ℕ) (zd : Sized 8 da) (zi : Sized 8 ins) wher
 
 -- ---- the laws of split
 
-row-semantic : (s : ℕ) → s ≤ 4 → row SEMANTIC s 1 ≡ true
-unfolding row
-row-semantic s l = rw (le-leb s 4 l)
-
-row-content : (s : ℕ) → s ≤ 4 → row CONTENT s 1 ≡ true
-unfolding row
-row-content s l = rw (le-leb s 4 l)
+row-4 : (s : ℕ) → s ≤ 4 → leb s 4 && leb 1 7 ≡ true
+row-4 s l = rw (le-leb s 4 l)
 
 units-permitted : (s : ℕ) (me se co : Option (List ℕ)) (da ins : List ℕ) → Eight me → Eight se → Eight co → Sized 8 da → Sized 8 ins
     → SubtypeIs (isIn me) (isIn se) (isIn co) s → AllPermitted (unitsIn s me se co da ins)
@@ -96,9 +91,9 @@ units-permitted s me se co da ins a b c d e w =
     let us : List Item = unit64 DATA 0 da ∷ unit64 INSTANCE 0 ins ∷ [] in
     let p₀ : AllPermitted us = (of-eight DATA 0 da refl refl d, (of-eight INSTANCE 0 ins refl refl e, tt)) in
     let p₁ : AllPermitted (unitIn CONTENT s co ++ us) =
-    in-front CONTENT s co us (λ x q z. of-eight CONTENT s x (row-content s (w .content (ap isIn q))) refl z) c p₀ in
+    in-front CONTENT s co us (λ x q z. of-eight CONTENT s x (row-4 s (w .content (ap isIn q))) refl z) c p₀ in
     let p₂ : AllPermitted (unitIn SEMANTIC s se ++ (unitIn CONTENT s co ++ us)) =
-    in-front SEMANTIC s se (unitIn CONTENT s co ++ us) (λ x q z. of-eight SEMANTIC s x (row-semantic s (w .semantic (ap isIn q))) refl z) b p₁ in
+    in-front SEMANTIC s se (unitIn CONTENT s co ++ us) (λ x q z. of-eight SEMANTIC s x (row-4 s (w .semantic (ap isIn q))) refl z) b p₁ in
     let p₃ : AllPermitted (unitIn META 0 me ++ (unitIn SEMANTIC s se ++ (unitIn CONTENT s co ++ us))) =
     in-front META 0 me (unitIn SEMANTIC s se ++ (unitIn CONTENT s co ++ us)) (λ x q z. of-eight META 0 x refl refl z) a p₂ in
     rw (append-assoc (unitIn META 0 me ++ unitIn SEMANTIC s se) (unitIn CONTENT s co) us, append-assoc (unitIn META 0 me) (unitIn SEMANTIC s se) (unitIn CONTENT s co ++ us)) p₃
@@ -161,7 +156,7 @@ joined-permitted : (is : List Item) (m : Meaning) → AllPermitted is → joined
 unfolding joinedMeaning
 joined-permitted [] m p e = absurd (never e)
 joined-permitted (i ∷ []) m p e = absurd (never (passed (joinable i) _ (refuse lacksDataOrInstance) e .1))
-joined-permitted (i ∷ j ∷ is) m p e = composed-permitted (i ∷ j ∷ is) m p e
+joined-permitted (i ∷ j ∷ is) m p e = compositeFrom-permitted (i ∷ j ∷ is) m p e
 
 pub join-makes : (bs out : List ℕ) → Below 256 bs → joinedBytes bs ≡ accept out → Joined out
 unfolding joinedBytes

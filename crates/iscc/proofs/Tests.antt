@@ -192,9 +192,9 @@ step-lacks (some a) (some b) f ss y =
       refused = λ q e. let z = y a b .refused q e in (z .0, inr ((λ j. (present-all j, tt)), z .1));
     }
 
-pub composed-by : (is : List Item) → By (listStages is) (compositeFrom is)
+pub compositeFrom-by : (is : List Item) → By (listStages is) (compositeFrom is)
 unfolding compositeFrom listStages
-composed-by is =
+compositeFrom-by is =
     step-every joinable is notJoinable _ _
     (step-every is64Bits is not64Bits _ _
     (step-pairs otherType is mainTypeTwice _ _
@@ -205,7 +205,7 @@ pub meaning-by : (is : List Item) → 0 < length is → By (meaningStages is) (m
 unfolding meaningStages meaningOfItems
 meaning-by [] h = absurd (not-suc-le-zero h)
 meaning-by (i ∷ []) h = done (meaningOf i)
-meaning-by (i ∷ j ∷ is) h = composed-by (i ∷ j ∷ is)
+meaning-by (i ∷ j ∷ is) h = compositeFrom-by (i ∷ j ∷ is)
 
 -- ---- an item's tests: 7, 8, 9
 
@@ -509,7 +509,7 @@ joined-by [] h = absurd (not-suc-le-zero h)
 joined-by (i ∷ []) h =
     step (joinable i) notJoinable 0 _ (rule notJoinable (itemAt joinable (i ∷ []))) _
     (λ e j. (every-holds joinable (i ∷ []) (rw e) j, tt)) (λ e. ((λ j l. absurd (not-suc-le-zero l)), inl (refl, e))) (missing-by i)
-joined-by (i ∷ j ∷ is) h = composed-by (i ∷ j ∷ is)
+joined-by (i ∷ j ∷ is) h = compositeFrom-by (i ∷ j ∷ is)
 
 made-by : (is : List Item) → 0 < length is → By (joinStages is) (joinedMeaning is >>= λ m. accept (itemBytes (itemOf m)))
 made-by is h =

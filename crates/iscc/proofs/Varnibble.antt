@@ -47,8 +47,8 @@ pub varnibble-below : (n : ℕ) → Below 16 (varnibble n)
 unfolding varnibble
 varnibble-below n = digits-below 4 (rowOf n) _
 
-abbrev pub got : ℕ → ℕ → Parsed ℕ
-got n k = record { result = n; used = k }
+abbrev pub parsed : {A : Type 0} → A → ℕ → Parsed A
+parsed n k = record { result = n; used = k }
 
 -- the row of a first nibble
 by-1 : {h : ℕ} → h < 8 → rowBy h ≡ 1
@@ -74,7 +74,7 @@ by-4 {h} a =
 
 -- a varnibble by its first nibble's row
 read-row : (k : ℕ) (ds rest : List ℕ) (n : ℕ) → rowBy (getD ds 0 0) ≡ k → getD ds 0 0 < 15 → 0 < k → length ds ≡ k → firstOf k + value 4 ds % 2 ^ (3 * k) ≡ n
-    → readVarnibble (ds ++ rest) ≡ accept (got n k)
+    → readVarnibble (ds ++ rest) ≡ accept (parsed n k)
 unfolding readVarnibble
 read-row k ds rest n r l p len e =
     let z : 0 < length (ds ++ rest) = simp length-append (omega arith) in
@@ -89,16 +89,16 @@ module _ (k n : ℕ) (rest : List ℕ) (row : rowOf n ≡ k) (some : 0 < k) wher
   bits = prefixOf k * 2 ^ (3 * k) + (n - firstOf k)
 
   read-at : rowBy (getD (digits 4 k bits) 0 0) ≡ k → getD (digits 4 k bits) 0 0 < 15 → firstOf k + bits % 2 ^ (4 * k) % 2 ^ (3 * k) ≡ n
-      → readVarnibble (varnibble n ++ rest) ≡ accept (got n (rowOf n))
+      → readVarnibble (varnibble n ++ rest) ≡ accept (parsed n (rowOf n))
   unfolding varnibble
   read-at a b c =
       rw row (read-row k (digits 4 k bits) rest n a b some (length-digits 4 k bits) (rw (value-digits 4 k bits) c))
 
 -- what is written reads back
-pub read-varnibble : (n : ℕ) (rest : List ℕ) → n ≤ 4679 → readVarnibble (varnibble n ++ rest) ≡ accept (got n (rowOf n))
+pub read-varnibble : (n : ℕ) (rest : List ℕ) → n ≤ 4679 → readVarnibble (varnibble n ++ rest) ≡ accept (parsed n (rowOf n))
 unfolding digits prefixOf firstOf
 read-varnibble n rest h =
-    rows (λ n. readVarnibble (varnibble n ++ rest) ≡ accept (got n (rowOf n))) n h
+    rows (λ n. readVarnibble (varnibble n ++ rest) ≡ accept (parsed n (rowOf n))) n h
     (λ a r. read-at 1 n rest r (omega arith) (by-1 (omega arith)) (omega arith) (omega arith))
     (λ a b r. read-at 2 n rest r (omega arith) (by-2 (omega arith) (omega arith)) (omega arith) (omega arith))
     (λ a b r. read-at 3 n rest r (omega arith) (by-3 (omega arith) (omega arith)) (omega arith) (omega arith))
@@ -157,7 +157,7 @@ abbrev numberIn : ℕ → List ℕ → ℕ
 numberIn k ns = firstOf k + value 4 (take k ns) % 2 ^ (3 * k)
 
 back-row : (k : ℕ) (ns : List ℕ) → Below 16 ns → k ≤ length ns → numberIn k ns ≤ 4679 → rowOf (numberIn k ns) ≡ k
-    → prefixOf k * 2 ^ (3 * k) + (numberIn k ns - firstOf k) ≡ value 4 (take k ns) → Back ns (got (numberIn k ns) k)
+    → prefixOf k * 2 ^ (3 * k) + (numberIn k ns - firstOf k) ≡ value 4 (take k ns) → Back ns (parsed (numberIn k ns) k)
 unfolding varnibble
 back-row k ns b l s r e =
     let len : length (take k ns) ≡ k = length-take-le k ns l in
@@ -173,9 +173,9 @@ varnibble-read (h ∷ tl) g b e =
     let p₂ = passed (ltb h 15) _ _ (p₁ .1) in
     let p₃ = passed (leb (rowBy h) (length ns)) _ _ (p₂ .1) in
     let l : rowBy h ≤ length ns = leb-true (rowBy h) (length ns) (p₃ .0) in
-    let same : got (numberIn (rowBy h) ns) (rowBy h) ≡ g = let z = p₃ .1 in cc in
-    let good : rowBy h ≤ length ns → Back ns (got (numberIn (rowBy h) ns) (rowBy h)) =
-    rows-by (λ k. k ≤ length ns → Back ns (got (numberIn k ns) k)) h (ltb-true h 15 (p₂ .0))
+    let same : parsed (numberIn (rowBy h) ns) (rowBy h) ≡ g = let z = p₃ .1 in cc in
+    let good : rowBy h ≤ length ns → Back ns (parsed (numberIn (rowBy h) ns) (rowBy h)) =
+    rows-by (λ k. k ≤ length ns → Back ns (parsed (numberIn k ns) k)) h (ltb-true h 15 (p₂ .0))
     (λ x l. let d = led h 0 tl (b .1) l in back-row 1 ns b l (omega arith) (row-is-1 (omega arith)) (omega arith))
     (λ x y l. let d = led h 1 tl (b .1) l in back-row 2 ns b l (omega arith) (row-is-2 (omega arith) (omega arith)) (omega arith))
     (λ x y l. let d = led h 2 tl (b .1) l in back-row 3 ns b l (omega arith) (row-is-3 (omega arith) (omega arith)) (omega arith))
@@ -207,7 +207,7 @@ module _ (ns : List ℕ) (at : ℕ) where
         rw (some-left, here, lt-ltb (getD ns at 0) 15 h, lt-leb (rowBy (getD ns at 0)) (length (drop at ns)) m)
 
     pub read-here : getD ns at 0 < 15 → (k : ℕ) → rowBy (getD ns at 0) ≡ k → k ≤ length ns - at
-        → readVarnibble (drop at ns) ≡ accept (got (firstOf k + value 4 (take k (drop at ns)) % 2 ^ (3 * k)) k)
+        → readVarnibble (drop at ns) ≡ accept (parsed (firstOf k + value 4 (take k (drop at ns)) % 2 ^ (3 * k)) k)
     unfolding readVarnibble
     read-here h k r b =
         let m : k ≤ length (drop at ns) = rw length-drop b in

@@ -1,4 +1,4 @@
--- Document 01, "Distance": n, the shorter body's bits; d, the differingPlaces bits among the first n; the ratio d / n.
+-- Document 01, "Distance": n, the shorter body's bits; d, the differing bits among the first n; the ratio d / n.
 -- Assumes nothing.
 use Prim.Native.Nat.{ℕ, _+_, _*_, min}
 use mathlib.Core.Bool.{Bool, false, cond, _&&_}

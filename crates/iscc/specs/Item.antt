@@ -23,6 +23,10 @@ pub record Item : Type 0 where
 abbrev pub headerOf : Item → Header
 headerOf i = record { mainType = number (i .mainType); subtype = i .subtype; version = i .version; lengthNo = i .lengthNo }
 
+-- the item of a header, with the name of its main type
+abbrev pub itemWith : MainType → Header → List ℕ → Item
+itemWith m h body = record { mainType = m; subtype = h .subtype; version = h .version; lengthNo = h .lengthNo; body = body }
+
 unfoldable pub itemBytes : Item → List ℕ
 itemBytes i = headerBytes (headerOf i) ++ i .body
 
@@ -35,14 +39,7 @@ readItem bs = do
   leb (h .used + bodyBytes m (h .result .subtype) (h .result .lengthNo)) (length bs) otherwise shortBody
   accept
       (record {
-        result =
-            record {
-              mainType = m;
-              subtype = h .result .subtype;
-              version = h .result .version;
-              lengthNo = h .result .lengthNo;
-              body = take (bodyBytes m (h .result .subtype) (h .result .lengthNo)) (drop (h .used) bs);
-            };
+        result = itemWith m (h .result) (take (bodyBytes m (h .result .subtype) (h .result .lengthNo)) (drop (h .used) bs));
         used = h .used + bodyBytes m (h .result .subtype) (h .result .lengthNo);
       })
 

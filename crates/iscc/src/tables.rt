@@ -1,19 +1,18 @@
 // The two constant tables of document 01: the base32 alphabet and the eight sets of units in a composite.
 ghost use mathlib.Core.Path.{_≡_};
-ghost use Prim.Native.Nat.{_%_, _≤_};
-ghost use Rattle.iscc.specs.Alphabet.{charIn};
+ghost use Prim.Native.Nat.{_≤_};
 ghost use Rattle.iscc.specs.Base32.{base32};
 ghost use Rattle.iscc.specs.Permitted.{setOf};
 ghost use Rattle.iscc.specs.Forms.{unitSetAs};
 use crate::main_type::MainType;
 
-pub const ALPHABET: [u8; 32] = *b"ABCDEFGHIJKLMNOPQRSTUVWXYZ234567";
+const ALPHABET: [u8; 32] = *b"ABCDEFGHIJKLMNOPQRSTUVWXYZ234567";
 
-// The character of a digit; a larger number counts by its last five bits.
-pub fn letter(digit: usize) -> u8
-    ensures { λ r. ⌜ r ≡ charIn base32 (digit % 32) ⌝ }
+// The character of each digit.
+pub fn alphabet() -> [u8; 32]
+    ensures { λ r. ⌜ r ≡ base32 .chars ⌝ }
 {
-    ALPHABET[digit % 32]
+    ALPHABET
 }
 
 // The main types of the units in a composite, in their order, then ID as filling; and how many bodies it has.

@@ -15,7 +15,7 @@ use Rattle.iscc.specs.declared.main_type.Named.{Named}
 use Rattle.iscc.specs.declared.main_type.Named.the-variants as named
 use Rattle.iscc.specs.declared.written.Outcome.{Outcome}
 use Rattle.iscc.specs.declared.written.Written.{Written}
-use Rattle.iscc.proofs.Permitted.{named-back}
+use Rattle.iscc.proofs.Permitted.{mainTypeOf-back}
 use Rattle.header.specs.declared.reader.HeaderRead.{HeaderRead}
 use Rattle.header.specs.declared.reader.HeaderRead.the-variants as header
 use Rattle.header.specs.declared.reader.RawHeader.{RawHeader}
@@ -52,7 +52,7 @@ pub type-number : (n : ℕ) (r : Named) (m : MainType) → r ≡ namedAs (mainTy
 type-number n r m e f = go (mainTypeOf n) refl
   where
     go : (x : Answer permitted.MainType) → mainTypeOf n ≡ x → m .number ≡ n
-    go (accept t) w = let s : m ≡ record { number = permitted.number t } = cc (ap namedAs w) in ap (λ (k : MainType). k .number) s ∙ named-back n t w
+    go (accept t) w = let s : m ≡ record { number = permitted.number t } = cc (ap namedAs w) in ap (λ (k : MainType). k .number) s ∙ mainTypeOf-back n t w
     go (refuse p) w = let z : _≡_ {A = ℕ} 0 1 = cc (ap namedAs w) in absurd (omega arith)
 
 module _ (n s v l : ℕ) (body : List ℕ) (area : ℕ) (r : Named) (q : Refusal) (e : r ≡ namedAs (mainTypeOf n)) (f : r ≡ named.Refused q) where

@@ -22,7 +22,7 @@ pub struct Fields {
 }
 
 // What a refusal answers.
-pub fn refused(number: u32) -> Fields
+pub(crate) fn refused(number: u32) -> Fields
     ensures { λ r. ⌜ r ≡ noFields number ⌝ }
 {
     Fields {

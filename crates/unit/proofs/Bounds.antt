@@ -4,20 +4,17 @@ use mathlib.Core.Path.{_≡_, refl, _∙_, ap, subst}
 use mathlib.Core.Bool.{true}
 use mathlib.Core.List.{List}
 use native.Mathlib.Omega.{arith}
-use borrow.Author.Tests.{leb-true}
-use lib.ListN.{length, take, drop, length-drop}
-use lib.Seq.{length-take-le}
-use lib.Dec.{leb}
+use lib.ListN.{length, take, drop}
 use Rattle.iscc.specs.Answer.{Answer, accept, refuse}
 use Rattle.iscc.specs.Refusals.{Refusal}
 use Rattle.iscc.specs.Varnibble.{Parsed}
-use Rattle.iscc.specs.Header.{Header, readHeader}
-use Rattle.iscc.specs.Permitted.{MainType, number, typeOf, mainTypeOf, permits, bodyBytes}
+use Rattle.iscc.specs.Header.{Header}
+use Rattle.iscc.specs.Permitted.{MainType, number, typeOf, permits, bodyBytes}
 use Rattle.iscc.specs.Item.{Item, readItem}
 use Rattle.iscc.specs.Forms.{mainTypeAs}
-use Rattle.iscc.proofs.Answer.{passed, answered, accept-inj}
-use Rattle.iscc.proofs.Permitted.{number-small, named-back, Small, small, body-most}
-use Rattle.header.proofs.Bounds.{HeaderBounds, header-bounds}
+use Rattle.iscc.proofs.Permitted.{number-small, Small, small, body-most}
+use Rattle.iscc.proofs.Item.{Behind, parsedItem, behind-header}
+use Rattle.header.proofs.Bounds.{header-bounds}
 use Rattle.unit.specs.declared.reader.Unit as code
 use Rattle.unit.specs.declared.reader.UnitRead.{UnitRead}
 use Rattle.unit.specs.declared.reader.UnitRead.the-variants as read
@@ -33,39 +30,17 @@ pub record ItemBounds (bs : List ℕ) (g : Parsed Item) : Type 0 where
   pub most : g .used ≤ 42
   pub body : g .result .body ≡ take (length (g .result .body)) (drop 2 bs)
 
-module _ (bs : List ℕ) (h : Parsed Header) (m : MainType) where
-  abbrev size : ℕ
-  size = bodyBytes m (h .result .subtype) (h .result .lengthNo)
-
-  abbrev item : Item
-  item =
-      record {
-        mainType = m;
-        subtype = h .result .subtype;
-        version = h .result .version;
-        lengthNo = h .result .lengthNo;
-        body = take size (drop (h .used) bs);
-      }
-
-  bounds-of : HeaderBounds bs h → number m ≡ h .result .mainType → permits m (h .result .subtype) (h .result .version) (h .result .lengthNo) ≡ true
-      → h .used + size ≤ length bs → ItemBounds bs (record { result = item; used = h .used + size })
-  bounds-of b n p l =
-      let s : Small (h .result .subtype) (h .result .version) (h .result .lengthNo) = small m (h .result .subtype) (h .result .version) (h .result .lengthNo) p in
-      let two : h .used ≡ 2 = b .short (omega (arith, number-small m)) (omega arith) (omega arith) (omega arith) in
-      let len : length (take size (drop (h .used) bs)) ≡ size = length-take-le size (drop (h .used) bs) (simp length-drop (omega arith)) in
-      let short : size ≤ 40 = body-most m (h .result .subtype) (h .result .version) (h .result .lengthNo) p in
-      record { permitted = p; size = len; front = omega arith; within = l; most = omega arith; body = rw (len, two) }
+bounds-behind : (bs : List ℕ) (h : Parsed Header) (m : MainType) → Behind bs h m → ItemBounds bs (parsedItem bs h m)
+bounds-behind bs h m b =
+    let s : Small (h .result .subtype) (h .result .version) (h .result .lengthNo) = small m (h .result .subtype) (h .result .version) (h .result .lengthNo) (b .permitted) in
+    let two : h .used ≡ 2 = header-bounds bs h (b .read) .short (omega (arith, number-small m, b .mainType)) (omega arith) (omega arith) (omega arith) in
+    let n : ℕ = bodyBytes m (h .result .subtype) (h .result .lengthNo) in
+    let len : length (take n (drop (h .used) bs)) ≡ n = b .sized in
+    let short : n ≤ 40 = body-most m (h .result .subtype) (h .result .version) (h .result .lengthNo) (b .permitted) in
+    record { permitted = b .permitted; size = len; front = omega arith; within = b .within; most = omega arith; body = rw (len, two) }
 
 pub item-bounds : (bs : List ℕ) (g : Parsed Item) → readItem bs ≡ accept g → ItemBounds bs g
-unfolding readItem
-item-bounds bs g e =
-    let r = answered (readHeader bs) _ e in
-    let q = answered (mainTypeOf (r .0 .result .mainType)) _ (r .2) in
-    let p = passed (permits (q .0) (r .0 .result .subtype) (r .0 .result .version) (r .0 .result .lengthNo)) _ _ (q .2) in
-    let w = passed (leb (r .0 .used + size bs (r .0) (q .0)) (length bs)) _ _ (p .1) in
-    subst (ItemBounds bs) (accept-inj (w .1))
-    (bounds-of bs (r .0) (q .0) (header-bounds bs (r .0) (r .1)) (named-back (r .0 .result .mainType) (q .0) (q .1)) (p .0)
-    (leb-true (r .0 .used + size bs (r .0) (q .0)) (length bs) (w .0)))
+item-bounds bs = behind-header bs (ItemBounds bs) (bounds-behind bs)
 
 -- the definitions' item behind a unit in the code
 abbrev pub itemFrom : List ℕ → code.Unit → Item

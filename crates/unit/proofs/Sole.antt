@@ -76,9 +76,11 @@ pub record OneIs (bs : List ℕ) (u : code.Unit) : Type 0 where
   pub is : readOne bs ≡ accept item
   pub mainType : number (item .mainType) ≡ u .«main_type» .number
   pub subtype : item .subtype ≡ u .subtype
+  pub lengthNo : item .lengthNo ≡ u .length
   pub permitted : permits (item .mainType) (item .subtype) (item .version) (item .lengthNo) ≡ true
   pub body : item .body ≡ drop (u .start) bs
   pub start : u .start ≡ 2
+  pub whole : length bs ≡ 2 + bodyBytes (item .mainType) (item .subtype) (item .lengthNo)
   pub within : 2 ≤ length bs
   pub most : length bs ≤ 42
 
@@ -95,9 +97,11 @@ one-is bs u e = go (readOne bs) refl
           is = f;
           mainType = refl;
           subtype = refl;
+          lengthNo = refl;
           permitted = b .permitted;
           body = rw s (b .body);
           start = s;
+          whole = rw (← b .size) (b .whole);
           within = omega (arith, b .whole);
           most = b .most;
         }

@@ -68,7 +68,7 @@ pub fn permits(main_type: MainType, subtype: u32, version: u32, length: u32) -> 
 }
 
 // The bytes of a body, by the same columns.
-pub fn body_bytes(main_type: MainType, subtype: u32, length: u32) -> usize
+pub(crate) fn body_bytes(main_type: MainType, subtype: u32, length: u32) -> usize
     requires { ⌜ («main_type» .number < 7) × (length ≤ 7) ⌝ }
     ensures { λ r. ⌜ (r ≡ bodyBytes (typeOf («main_type» .number)) subtype length) × (r ≤ 40) ⌝ }
 {

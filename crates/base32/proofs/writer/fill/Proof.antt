@@ -46,7 +46,7 @@ unfolding base32
 put-requires c κs =
     let in-loop = c .before .before .before in
     let s = in-loop .before .loop .inv in
-    (refl, (omega arith, omega (arith, length-written (s .is), group-room _ _ _ (s .whole) (s .within) (in-loop .loop-test .taken))))
+    (in-loop .before .before .alphabet .ensures, (omega arith, omega (arith, length-written (s .is), group-room _ _ _ (s .whole) (s .within) (in-loop .loop-test .taken))))
 
 add-o : tie.Need-add-o Inv-loop μ-loop
 unfolding base32
@@ -65,31 +65,32 @@ loop-again c =
     let load = put .before .before in
     let at = load .before .before .before in
     let s = at .loop .inv in
-    encoded-group base32 pos _ _ 5 8 (load .load .result) s (bytes-below (at .before)) (omega (arith, group-room _ _ _ (s .whole) (s .within) (load .before .before .loop-test .taken))) (load .load .ensures .0)
+    encoded-group base32 pos _ _ 5 8 (load .load .result) s (bytes-below (at .before .before)) (omega (arith, group-room _ _ _ (s .whole) (s .within) (load .before .before .loop-test .taken))) (load .load .ensures .0)
     refl (omega arith) (put .put .ensures)
 
 put-requires-2 : tie.Need-put-requires-2 Inv-loop μ-loop
 unfolding base32
 put-requires-2 c κs =
-    let s = c .before .before .before .before .loop .inv in
-    (refl, (omega arith, omega (arith, length-written (s .is), rest-count _ _ _ (s .whole) (s .within))))
+    let at = c .before .before .before .before in
+    let s = at .loop .inv in
+    (at .before .alphabet .ensures, (omega arith, omega (arith, length-written (s .is), rest-count _ _ _ (s .whole) (s .within))))
 
 -- all is written
 done : (c : tie.After-put2 Inv-loop μ-loop) →
     let at = c .before .before .before .before .before in
-    Written (encode base32 (at .before .before .before .args .bytes .now)) (at .before .before .before .args .out .now) (c .put2 .last .1 .1 .1 .0) (digitCount 5 (length (at .before .before .before .args .bytes .now)))
+    Written (encode base32 (at .before .before .before .before .args .bytes .now)) (at .before .before .before .before .args .out .now) (c .put2 .last .1 .1 .1 .0) (digitCount 5 (length (at .before .before .before .before .args .bytes .now)))
 unfolding base32
 done c =
     let load = c .before .before in
     let at = load .before .before .before in
     let s = at .loop .inv in
-    let n : ℕ = length (at .before .before .before .args .bytes .now) in
+    let n : ℕ = length (at .before .before .before .before .args .bytes .now) in
     let k : ℕ = n - at .loop .i in
     let m : ℕ = (k * 8 + 4) / 5 in
     let z : m * 5 - k * 8 ≡ 5 * m - 8 * k = omega arith in
     let e = rest-count n (at .loop .i) (at .loop .o) (s .whole) (s .within) in
     rw e at
-    (encoded-rest base32 pos _ _ k m (load .load2 .result) s (bytes-below (at .before)) (omega arith) (load .load2 .ensures .0)
+    (encoded-rest base32 pos _ _ k m (load .load2 .result) s (bytes-below (at .before .before)) (omega arith) (load .load2 .ensures .0)
     _ (rest-digits k) (omega arith) (shl-exact (8 * k) (m * 5 - k * 8) 64 (load .load2 .ensures .1) (omega arith) ∙ rw z) (c .put2 .ensures))
 
 same-length : tie.Need-same-length Inv-loop μ-loop
@@ -104,6 +105,7 @@ fill-spec =
     (tie.spec
     Inv-loop
     μ-loop
+    (λ c κs. search needs)
     loop-holds
     (λ c. search needs)
     (λ c κs. search needs)

@@ -1,11 +1,11 @@
 -- `load` meets its contract. The loop's invariant: the number is that of the first i bytes. Assumes nothing.
 use Prim.Native.Nat.{_-_, _≤_}
-use mathlib.Core.Path.{_≡_, sym, _∙_}
+use mathlib.Core.Path.{sym, _∙_}
 use native.Mathlib.Omega.{arith}
 use lib.ListN.{drop, length-drop}
 use lib.Seq.{getD-drop}
 use borrow.Author.Needs.{needs}
-use Rattle.iscc.proofs.Groups.{Loaded, loaded-none, loaded-one, loaded-small}
+use Rattle.iscc.proofs.Groups.{Loaded, loaded-none, loaded-one, loaded-small, loaded-all}
 use Rattle.base32.proofs.writer.load.Statement.{statement}
 use Rattle.base32.proofs.writer.load.Tie as tie
 
@@ -33,10 +33,7 @@ loop-again c =
     )
 
 returns : tie.Need-returns Inv-loop μ-loop
-returns c =
-    let at = c .before .loop in
-    let e : at .i ≡ c .before .before .before .args .count = omega arith in
-    rw (← e) (at .inv .1 .is, at .inv .1 .bound)
+returns c = loaded-all _ (c .before .loop .inv .1) (omega arith)
 
 pub load-spec : {M : Type 1} → statement M
 load-spec =

@@ -1,11 +1,8 @@
 -- `join` meets its contract. Assumes nothing.
-use Prim.Native.Nat.{ℕ}
-use mathlib.Core.Path.{_∙_, sym, ap}
-use mathlib.Core.List.{List}
-use lib.ListN.{length}
-use Rattle.iscc.specs.Answer.{Answer, refuse, into, areaAfter}
-use Rattle.iscc.specs.Forms.{writtenAs}
-use Rattle.composite.proofs.Joins.{refused-into, listed-of, read-refused, join-refused, joins-one, joins-more}
+use mathlib.Core.Path.{refl, _∙_, sym, ap}
+use Rattle.iscc.specs.Answer.{refuse}
+use Rattle.iscc.proofs.Lent.{refused, answers-same}
+use Rattle.composite.proofs.Joins.{listed-of, read-refused, join-refused, joins-one, joins-more}
 use borrow.Author.Needs.{needs}
 use Rattle.composite.proofs.join.join.Statement.{statement}
 use Rattle.composite.proofs.join.join.Tie as tie
@@ -19,7 +16,7 @@ returns c =
     let r = t .before .before .before in
     let s = r .before .before .before in
     let i = listed-of _ (r .read .ensures .0) _ (r .read .ensures .1) (t .enum-told .given .1) in
-    refused-into _ (s .args .out .now) _ (joins-one _ _ i (c .before .if1 .taken) ∙ ap refuse (sym (c .single .ensures)))
+    refused (s .args .out .now) (joins-one _ _ i (c .before .if1 .taken) ∙ ap refuse (sym (c .single .ensures))) refl
 
 join-list-requires : tie.Need-join-list-requires
 join-list-requires c κs =
@@ -31,7 +28,7 @@ returns-2 : tie.Need-returns-2
 returns-2 c =
     let r = c .before .before .before .before in
     let s = r .before .before .before in
-    refused-into _ (s .args .out .now) _ (join-refused _ _ (read-refused _ (r .read .ensures .0) _ _ (c .before .answer .given .1) .0))
+    refused (s .args .out .now) (join-refused _ _ (read-refused _ (r .read .ensures .0) _ _ (c .before .answer .given .1) .0)) refl
 
 returns-3 : tie.Need-returns-3
 returns-3 c =
@@ -39,10 +36,8 @@ returns-3 c =
     let t = w .before .before .before .before in
     let r = t .before .before .before in
     let s = r .before .before .before in
-    let e = joins-more _ _ (listed-of _ (r .read .ensures .0) _ (r .read .ensures .1) (t .enum-told .given .1)) (w .before .before .if1 .left) in (
-      w .join-list .ensures .0 ∙ ap (λ (x : Answer (List ℕ)). writtenAs (into (length (s .args .out .now)) x)) (sym e),
-      w .join-list .ensures .1 ∙ ap (λ (x : Answer (List ℕ)). areaAfter (into (length (s .args .out .now)) x) (s .args .out .now)) (sym e),
-    )
+    let e = joins-more _ _ (listed-of _ (r .read .ensures .0) _ (r .read .ensures .1) (t .enum-told .given .1)) (w .before .before .if1 .left) in
+    answers-same (s .args .out .now) e (w .join-list .ensures .0) (w .join-list .ensures .1)
 
 pub join-spec : {M : Type 1} → statement M
 join-spec =

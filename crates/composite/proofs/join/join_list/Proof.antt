@@ -1,13 +1,9 @@
 -- `join_list` meets its contract. Assumes nothing.
-use Prim.Native.Nat.{ℕ}
-use mathlib.Core.Path.{_∙_, sym, ap}
-use mathlib.Core.List.{List}
+use mathlib.Core.Path.{refl}
 use native.Mathlib.Omega.{arith}
-use lib.ListN.{length}
-use Rattle.iscc.specs.Answer.{Answer, into, areaAfter}
-use Rattle.iscc.specs.Forms.{writtenAs}
 use Rattle.iscc.proofs.Digits.{below-all}
-use Rattle.composite.proofs.Joins.{verdict-refuses, verdict-makes, refused-into}
+use Rattle.iscc.proofs.Lent.{refused, answers-same}
+use Rattle.composite.proofs.Joins.{verdict-refuses, verdict-makes}
 use borrow.Author.Needs.{needs}
 use Rattle.composite.proofs.join.join_list.Statement.{statement}
 use Rattle.composite.proofs.join.join_list.Tie as tie
@@ -27,7 +23,7 @@ returns : tie.Need-returns
 returns c =
     let d = c .before .before .before in
     let s = d .before .before .before in
-    refused-into _ (s .args .out .now) _ (verdict-refuses _ _ (s .pre) (d .decide .ensures) _ _ (c .before .verdict .given .1) .0)
+    refused (s .args .out .now) (verdict-refuses _ _ (s .pre) (d .decide .ensures) _ _ (c .before .verdict .given .1) .0) refl
 
 returns-2 : tie.Need-returns-2
 returns-2 c =
@@ -36,10 +32,8 @@ returns-2 c =
     let d = t .before .before in
     let b = d .before .before in
     let s = b .before in
-    let k = verdict-makes _ _ (s .pre) (d .decide .ensures) (below-all 256 (s .args .bytes .now) (λ i h. omega (arith, b .shared-slice-known .given i))) (t .enum-told .given .1) in (
-      w .write-list .ensures .0 (k .0) (k .1) ∙ ap (λ (x : Answer (List ℕ)). writtenAs (into (length (s .args .out .now)) x)) (sym (k .2)),
-      w .write-list .ensures .1 (k .0) (k .1) ∙ ap (λ (x : Answer (List ℕ)). areaAfter (into (length (s .args .out .now)) x) (s .args .out .now)) (sym (k .2)),
-    )
+    let k = verdict-makes _ _ (s .pre) (d .decide .ensures) (below-all 256 (s .args .bytes .now) (λ i h. omega (arith, b .shared-slice-known .given i))) (t .enum-told .given .1) in
+    answers-same (s .args .out .now) (k .2) (w .write-list .ensures .0 (k .0) (k .1)) (w .write-list .ensures .1 (k .0) (k .1))
 
 pub join-list-spec : {M : Type 1} → statement M
 join-list-spec =

@@ -1,7 +1,7 @@
 -- `split` meets its contract. Assumes nothing.
-use mathlib.Core.Path.{_∙_, sym}
-use Rattle.unit.proofs.Bounds.{unit-refused}
-use Rattle.composite.proofs.Joins.{refused-into}
+use mathlib.Core.Path.{refl, _∙_, sym}
+use Rattle.iscc.proofs.Lent.{refused}
+use Rattle.unit.proofs.Sole.{one-not}
 use Rattle.composite.proofs.Units.{split-unread}
 use borrow.Author.Needs.{needs}
 use Rattle.composite.proofs.split.split.Statement.{statement}
@@ -13,7 +13,7 @@ split-item-requires c κs = sym (c .before .before .before .before .read .ensure
 returns : tie.Need-returns
 returns c =
     let r = c .before .before .before in
-    refused-into _ (r .before .before .before .args .out .now) _ (split-unread _ _ (unit-refused _ (r .read .ensures) _ (c .before .answer .given .1)))
+    refused (r .before .before .before .args .out .now) (split-unread _ _ (one-not _ _ (sym (r .read .ensures) ∙ c .before .answer .given .1))) refl
 
 pub split-spec : {M : Type 1} → statement M
 split-spec =

@@ -1,31 +1,35 @@
 -- `put` meets its contract. The invariant: the first i bytes stand at the front of the area. Assumes nothing.
 use Prim.Native.Nat.{_-_, _≤_}
+use mathlib.Core.Path.{refl, _∙_}
+use mathlib.Core.List.{map-id}
+use native.Mathlib.Nat.{zero-add}
 use native.Mathlib.Omega.{arith}
 use borrow.Author.Needs.{needs}
-use lib.ListN.{length, take}
-use Rattle.iscc.specs.Digits.{digits}
-use Rattle.iscc.proofs.Area.{Written, nothing-written, length-written}
-use Rattle.header.proofs.Write.{put-more, put-all}
+use lib.ListN.{length}
+use Rattle.iscc.proofs.Area.{length-written}
+use Rattle.iscc.proofs.Groups.{Put, put-none, put-one, put-front}
 use Rattle.header.proofs.writer.put.Statement.{statement}
 use Rattle.header.proofs.writer.put.Tie as tie
 
 abbrev Inv-loop : tie.InvT-loop
-Inv-loop out₀ count value i₀ out i = (i ≤ count) × (count ≤ 8) × (count ≤ length out₀) × Written (take i (digits 8 count value)) out₀ out i
+Inv-loop out₀ count value i₀ out i = (count ≤ 8) × (count ≤ length out₀) × Put (λ b. b) 8 count value out₀ out 0 i
 
 abbrev μ-loop : tie.MeasureT-loop
 μ-loop out₀ count value i₀ out i = count - i
 
 loop-holds : tie.Need-loop-holds Inv-loop μ-loop
-loop-holds c = (omega arith, omega arith, omega arith, nothing-written _)
+loop-holds c = (omega arith, omega arith, put-none _ _ _ _ _ _ (omega arith))
 
 loop-again : tie.Need-loop-again Inv-loop μ-loop
-loop-again c = (omega arith, omega arith, omega arith, put-more _ _ _ (omega arith) (omega arith) (c .before .loop .inv .3))
+loop-again c =
+    let l = c .before .loop in
+    (omega arith, omega arith, rw (zero-add (l .i)) at (put-one _ _ _ _ _ (l .inv .2) (omega arith) (omega arith) refl))
 
 same-length : tie.Need-same-length Inv-loop μ-loop
-same-length c = length-written (c .before .loop .inv .3)
+same-length c = length-written (c .before .loop .inv .2 .is)
 
 returns : tie.Need-returns Inv-loop μ-loop
-returns c = search put-all
+returns c = put-front _ _ _ _ (c .before .loop .inv .2) (c .loop-test .left) ∙ rw map-id
 
 pub put-spec : {M : Type 1} → statement M
 put-spec =
@@ -39,7 +43,7 @@ put-spec =
     (λ c. search needs)
     (λ c. search needs)
     (λ c. search needs)
-    (λ c. omega (arith, length-written (c .before .loop .inv .3)))
+    (λ c. omega (arith, length-written (c .before .loop .inv .2 .is)))
     (λ c. search needs)
     (λ c. search needs)
     loop-again

@@ -1,0 +1,12 @@
+-- `alphabet` meets its contract, by computation. Assumes nothing.
+use mathlib.Core.Path.{refl}
+use Rattle.iscc.specs.Base32.{base32}
+use Rattle.iscc.proofs.tables.alphabet.Statement.{statement}
+use Rattle.iscc.proofs.tables.alphabet.Tie as tie
+
+returns : tie.Need-returns
+unfolding base32
+returns c = refl
+
+pub alphabet-spec : {M : Type 1} → statement M
+alphabet-spec = tie.close (tie.spec returns)
