@@ -10,6 +10,7 @@ ghost use Rattle.iscc.specs.Base32.{base32, readBase32};
 ghost use Rattle.iscc.specs.Digits.{digits, value, Below, allBelow, byteCount, spareCount};
 ghost use Rattle.iscc.specs.Forms.{writtenAs};
 ghost use Rattle.iscc.specs.Lists.{firstNot};
+use crate::writer;
 use iscc::refusal::Refusal;
 use iscc::written::Written;
 
@@ -82,6 +83,36 @@ fn load(text: &[u8], at: usize, count: usize) -> u64
     number
 }
 
+// Eight characters from `at` on as one number, a byte for each.
+fn word(text: &[u8], at: usize) -> u64
+    requires { ⌜ at + 8 ≤ length (now text) ⌝ }
+    ensures { λ r. ⌜ r ≡ value 8 (take 8 (drop at (now (text .entry)))) ⌝ }
+{
+    writer::load(text, at, 4) * 0x1_0000_0000 + writer::load(text, at + 4, 4)
+}
+
+// The digits of eight characters from `at` on, a byte for each: what `digit` does, for all eight at once.
+fn digit_bytes(text: &[u8], at: usize) -> u64
+    requires { ⌜ Below 32 (map (digitIn base32) (now text)) ⌝ }
+    requires { ⌜ at + 8 ≤ length (now text) ⌝ }
+    ensures { λ r. ⌜ r ≡ value 8 (take 8 (drop at (map (digitIn base32) (now (text .entry))))) ⌝ }
+{
+    let w = word(text, at);
+    (w & 0x1f1f1f1f1f1f1f1f) + 0x0808080808080808 - (w & 0x4040404040404040) / 64 * 9
+}
+
+// What `load` gives of eight characters. Neighbours are joined: 8 digits of 5 bits to 4 of 10, to 2 of 20, to one number.
+fn load_eight(text: &[u8], at: usize) -> u64
+    requires { ⌜ Below 32 (map (digitIn base32) (now text)) ⌝ }
+    requires { ⌜ at + 8 ≤ length (now text) ⌝ }
+    ensures { λ r. ⌜ (r ≡ value 5 (take 8 (drop at (map (digitIn base32) (now (text .entry)))))) × (r < 2 ^ 40) ⌝ }
+{
+    let eight = digit_bytes(text, at);
+    let four = (eight & 0x1f001f001f001f00) / 8 + (eight & 0x001f001f001f001f);
+    let two = (four & 0x03ff000003ff0000) / 64 + (four & 0x000003ff000003ff);
+    (two & 0x000fffff00000000) / 4096 + (two & 0x00000000000fffff)
+}
+
 // The low `count` bytes of a number, from `at` on.
 fn put(number: u64, count: usize, out: &mut [u8], at: usize)
     requires { ⌜ (count ≤ 5) × (at + count ≤ length (now out)) ⌝ }
@@ -137,7 +168,7 @@ fn fill(text: &[u8], out: &mut [u8])
     let mut i = 0;
     let mut o = 0;
     while 8 <= n - i {
-        put(load(text, i, 8), 5, out, o);
+        put(load_eight(text, i), 5, out, o);
         i += 8;
         o += 5;
     }
