@@ -1,2 +1,3 @@
--- Laws of the reader that works on eight characters at once. Assumes nothing.
+-- Laws of the reader: tests by character, and eight characters at once. Assumes nothing.
+pub mod Characters
 pub mod Lanes
