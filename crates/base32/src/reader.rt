@@ -1,8 +1,9 @@
 // Text to bytes.
 ghost use mathlib.Core.Path.{_≡_};
+ghost use mathlib.Core.Bool.{cond, _&&_};
 ghost use mathlib.Core.List.{_++_, map};
 ghost use Prim.Native.Nat.{_+_, _*_, _/_, _%_, _^_, _<_, _≤_};
-ghost use lib.Dec.{ltb};
+ghost use lib.Dec.{ltb, leb};
 ghost use lib.ListN.{length, take, drop};
 ghost use Rattle.iscc.specs.Answer.{areaAfter};
 ghost use Rattle.iscc.specs.Alphabet.{digitIn, isDigit};
@@ -10,6 +11,7 @@ ghost use Rattle.iscc.specs.Base32.{base32, readBase32};
 ghost use Rattle.iscc.specs.Digits.{digits, value, Below, allBelow, byteCount, spareCount};
 ghost use Rattle.iscc.specs.Forms.{writtenAs};
 ghost use Rattle.iscc.specs.Lists.{firstNot};
+use crate::writer;
 use iscc::refusal::Refusal;
 use iscc::written::Written;
 
@@ -25,20 +27,40 @@ pub fn digit_of(c: u8) -> u8
     }
 }
 
-// Whether each character has a digit. It tests the largest digit alone, so that the loop has no branch.
+// 0 for a byte from `first` to `last`, else 1.
+fn beyond(c: u8, first: u8, last: u8) -> u8
+    ensures { λ r. ⌜ (r ≡ cond (leb first c && leb c last) 0 1) × (r ≤ 1) ⌝ }
+{
+    if c < first {
+        return 1;
+    }
+    if last < c {
+        return 1;
+    }
+    0
+}
+
+// 0 for a character that has a digit, else 1. Without the bit of 32 a small letter is its capital.
+fn outside(c: u8) -> u8
+    ensures { λ r. ⌜ r ≡ cond (isDigit base32 c) 0 1 ⌝ }
+{
+    beyond(c & 0xdf, b'A', b'Z') * beyond(c, b'2', b'7')
+}
+
+// Whether each character has a digit. It tests the largest answer alone, so that the loop has no branch.
 fn all_digits(text: &[u8]) -> bool
     ensures { λ r. ⌜ r ≡ allBelow 32 (map (digitIn base32) (now (text .entry))) ⌝ }
 {
     let mut most = 0;
     let mut i = 0;
     while i < text.len() {
-        let digit = digit_of(text[i]);
-        if most < digit {
-            most = digit;
+        let bad = outside(text[i]);
+        if most < bad {
+            most = bad;
         }
         i += 1;
     }
-    most < 32
+    most < 1
 }
 
 // The index of the first character outside the alphabet, or the text's length.
@@ -82,6 +104,36 @@ fn load(text: &[u8], at: usize, count: usize) -> u64
     number
 }
 
+// Eight characters from `at` on as one number, a byte for each.
+fn word(text: &[u8], at: usize) -> u64
+    requires { ⌜ at + 8 ≤ length (now text) ⌝ }
+    ensures { λ r. ⌜ r ≡ value 8 (take 8 (drop at (now (text .entry)))) ⌝ }
+{
+    writer::load(text, at, 4) * 0x1_0000_0000 + writer::load(text, at + 4, 4)
+}
+
+// The digits of eight characters from `at` on, a byte for each: what `digit` does, for all eight at once.
+fn digit_bytes(text: &[u8], at: usize) -> u64
+    requires { ⌜ Below 32 (map (digitIn base32) (now text)) ⌝ }
+    requires { ⌜ at + 8 ≤ length (now text) ⌝ }
+    ensures { λ r. ⌜ r ≡ value 8 (take 8 (drop at (map (digitIn base32) (now (text .entry))))) ⌝ }
+{
+    let w = word(text, at);
+    (w & 0x1f1f1f1f1f1f1f1f) + 0x0808080808080808 - (w & 0x4040404040404040) / 64 * 9
+}
+
+// What `load` gives of eight characters. Neighbours are joined: 8 digits of 5 bits to 4 of 10, to 2 of 20, to one number.
+fn load_eight(text: &[u8], at: usize) -> u64
+    requires { ⌜ Below 32 (map (digitIn base32) (now text)) ⌝ }
+    requires { ⌜ at + 8 ≤ length (now text) ⌝ }
+    ensures { λ r. ⌜ (r ≡ value 5 (take 8 (drop at (map (digitIn base32) (now (text .entry)))))) × (r < 2 ^ 40) ⌝ }
+{
+    let eight = digit_bytes(text, at);
+    let four = (eight & 0x1f001f001f001f00) / 8 + (eight & 0x001f001f001f001f);
+    let two = (four & 0x03ff000003ff0000) / 64 + (four & 0x000003ff000003ff);
+    (two & 0x000fffff00000000) / 4096 + (two & 0x00000000000fffff)
+}
+
 // The low `count` bytes of a number, from `at` on.
 fn put(number: u64, count: usize, out: &mut [u8], at: usize)
     requires { ⌜ (count ≤ 5) × (at + count ≤ length (now out)) ⌝ }
@@ -116,15 +168,18 @@ fn byte_length(n: usize) -> usize
     n / 8 * 5 + n % 8 * 5 / 8
 }
 
-// The spare bits behind the last whole byte, as a number.
+// The spare bits behind the last whole byte, as a number: fewer than five, they are bits of the last digit.
 fn spare(text: &[u8]) -> u64
     requires { ⌜ Below 32 (map (digitIn base32) (now text)) ⌝ }
+    requires { ⌜ spareCount 5 (length (now text)) < 5 ⌝ }
     ensures { λ r. ⌜ r ≡ value 5 (map (digitIn base32) (now (text .entry))) % 2 ^ spareCount 5 (length (now (text .entry))) ⌝ }
 {
     let n = text.len();
-    let rest = n % 8;
-    let bits: usize = rest * 5 % 8;
-    load(text, n - rest, rest) % (1 << bits)
+    if n == 0 {
+        return 0;
+    }
+    let bits: usize = n % 8 * 5 % 8;
+    digit(text[n - 1]) % (1 << bits)
 }
 
 // Writes the bytes of the text to the front of an area that has room for them: eight characters as five bytes, then the rest.
@@ -137,7 +192,7 @@ fn fill(text: &[u8], out: &mut [u8])
     let mut i = 0;
     let mut o = 0;
     while 8 <= n - i {
-        put(load(text, i, 8), 5, out, o);
+        put(load_eight(text, i), 5, out, o);
         i += 8;
         o += 5;
     }

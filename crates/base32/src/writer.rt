@@ -19,7 +19,7 @@ fn wide(byte: u8) -> u64
 }
 
 // The number that `count` bytes from `at` on make, the first one highest.
-fn load(bytes: &[u8], at: usize, count: usize) -> u64
+pub(crate) fn load(bytes: &[u8], at: usize, count: usize) -> u64
     requires { ⌜ (count ≤ 5) × (at + count ≤ length (now bytes)) ⌝ }
     ensures { λ r. ⌜ (r ≡ value 8 (take count (drop at (now (bytes .entry))))) × (r < 2 ^ (8 * count)) ⌝ }
 {

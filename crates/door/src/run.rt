@@ -25,14 +25,13 @@ pub fn without_hyphens(typed: &[u8]) -> Run
     let mut i = 0;
     while i < typed.len() {
         let c = typed[i];
+        if c != b'-' {
+            if count < MOST {
+                chars[count] = c;
+            }
+            count += 1;
+        }
         i += 1;
-        if c == b'-' {
-            continue;
-        }
-        if count < MOST {
-            chars[count] = c;
-        }
-        count += 1;
     }
     Run { chars, count }
 }

@@ -59,7 +59,7 @@ loop-again c =
     let len : length (map (digitIn base32) t) ≡ length t = length-map t (digitIn base32) in
     let s = at .loop .inv in (
       omega arith,
-      decoded-group 5 _ _ 8 5 (load .load .result) (s .1) (omega (arith, group-room _ _ _ (s .1 .whole) (s .0) (load .before .loop-test .taken))) (load .load .ensures .0) (load .load .ensures .1)
+      decoded-group 5 _ _ 8 5 (load .load-eight .result) (s .1) (omega (arith, group-room _ _ _ (s .1 .whole) (s .0) (load .before .loop-test .taken))) (load .load-eight .ensures .0) (load .load-eight .ensures .1)
           refl (omega arith) (put .put .ensures),
     )
 
@@ -82,7 +82,7 @@ done c =
     let s = at .loop .inv in
     let k : ℕ = n - at .loop .i in
     let e = rest-count n (at .loop .i) (at .loop .o) (s .1 .whole) (s .0) in
-    let w = decoded-rest 5 _ _ k (k * 5 / 8) (load .load2 .result) (s .1) (omega arith) (load .load2 .ensures .0) (load .load2 .ensures .1)
+    let w = decoded-rest 5 _ _ k (k * 5 / 8) (load .load .result) (s .1) (omega arith) (load .load .ensures .0) (load .load .ensures .1)
     _ (rest-bytes k) (omega arith) (rw rest-spare) (c .put2 .ensures) in
     rw (len, e) at w
 

@@ -4,7 +4,7 @@ use mathlib.Core.Path.{_≡_, refl, sym, _∙_}
 use mathlib.Core.Bool.{true}
 use native.Mathlib.Omega.{arith}
 use borrow.Author.Needs.{needs}
-use borrow.Author.Tests.{not-true, not-false}
+use borrow.Author.Tests.{not-true, not-false, ltb-true}
 use lib.ListN.{length}
 use lib.Dec.{ltb}
 use Rattle.iscc.specs.Digits.{spareCount}
@@ -41,7 +41,7 @@ returns-2 c = refused _ (refused-5 base32 _ (in-alphabet (c .before .before)) (s
 
 spare-requires : tie.Need-spare-requires
 unfolding base32
-spare-requires c κs = all-digits base32 _ (in-alphabet (c .before .before))
+spare-requires c κs = (all-digits base32 _ (in-alphabet (c .before .before)), ltb-true _ _ (right-count c))
 
 returns-3 : tie.Need-returns-3
 unfolding base32

@@ -1,6 +1,7 @@
 -- `door::run::without_hyphens` meets its contract. The loop's invariant: the run of the first i characters. Assumes nothing.
 use Prim.Native.Nat.{_-_}
-use mathlib.Core.Path.{refl}
+use mathlib.Core.Path.{refl, _∙_}
+use mathlib.Core.List.{[]}
 use mathlib.Core.Logic.{⊎-elim}
 use borrow.Author.Needs.{needs}
 use lib.ListN.{length}
@@ -18,13 +19,15 @@ loop-holds : tie.Need-loop-holds Inv-loop μ-loop
 loop-holds c = kept-none _
 
 loop-again : tie.Need-loop-again Inv-loop μ-loop
-loop-again c = search kept-hyphen
-
-loop-again-2 : tie.Need-loop-again-2 Inv-loop μ-loop
-loop-again-2 c =
-    let at-loop = c .before .before .before .before in
-    ⊎-elim (λ w. search kept-stored)
-    (λ w. kept-counted _ _ _ _ _ _ _ _ (c .before .before .before .loop-test .taken) refl refl (at-loop .loop .inv) (c .before .if1 .left) refl (w .0 .left) (w .1)) (c .if2 .came)
+loop-again c =
+    let test = c .before .before .loop-test .taken in
+    let inv = c .before .before .before .loop .inv in
+    ⊎-elim
+    (λ w.
+    ⊎-elim (λ v. kept-stored _ _ _ _ _ _ _ _ test refl refl inv (w .0 .taken) (w .3) (v .0 .taken) (w .2 ∙ v .1))
+    (λ v. kept-counted _ _ _ _ _ _ _ _ test refl refl inv (w .0 .taken) (w .3) (v .0 .left) (w .2 ∙ v .1)) (w .1 .came))
+    (λ w. rw (w .1, w .2) (kept-hyphen _ _ [] _ _ 0 _ _ test refl refl inv (w .0 .left)))
+    (c .if1 .came)
 
 returns : tie.Need-returns Inv-loop μ-loop
 returns c = search kept-all
@@ -39,9 +42,7 @@ without-hyphens-spec =
     (λ c. search needs)
     (λ c. search needs)
     (λ c. search needs)
+    (λ c. search needs)
+    (λ c. search needs)
     loop-again
-    (λ c. search needs)
-    (λ c. search needs)
-    (λ c. search needs)
-    loop-again-2
     returns)

@@ -1,0 +1,19 @@
+-- `outside` meets its contract. Assumes nothing.
+use Prim.Native.Nat.{_*_}
+use mathlib.Core.Path.{ap₂, _∙_}
+use native.Mathlib.Omega.{arith}
+use borrow.Author.Needs.{needs}
+use Rattle.iscc.specs.Base32.{base32}
+use Rattle.base32.proofs.Characters.{small-product, outside-is}
+use Rattle.base32.proofs.reader.outside.Statement.{statement}
+use Rattle.base32.proofs.reader.outside.Tie as tie
+
+mul-result : tie.Need-mul-result
+mul-result c = omega (arith, small-product _ _ (c .before .beyond .ensures .1) (c .beyond2 .ensures .1))
+
+returns : tie.Need-returns
+unfolding base32
+returns c = ap₂ _*_ (c .before .beyond .ensures .0) (c .beyond2 .ensures .0) ∙ outside-is _ (search needs)
+
+pub outside-spec : {M : Type 1} → statement M
+outside-spec = tie.close (tie.spec (λ c κs. search needs) (λ c κs. search needs) mul-result returns)
