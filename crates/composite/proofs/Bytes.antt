@@ -1,25 +1,25 @@
 -- The bytes of a composite by value. Assumes nothing.
 use Prim.Native.Nat.{ℕ, zero, suc, _+_, _-_, _*_, _≤_, _<_}
 use mathlib.Core.Path.{_≡_, refl, sym, _∙_, ap}
-use mathlib.Core.Bool.{Bool, true, false}
+use mathlib.Core.Bool.{true, false}
 use mathlib.Core.Option.{Option, none, some}
 use mathlib.Core.List.{List, [], _∷_, _++_, append-nil}
 use native.Mathlib.Nat.{le-of-suc-le-suc, not-suc-le-zero}
 use native.Mathlib.Omega.{arith}
 use lib.ListN.{length, take, drop, getD, length-append}
-use lib.Dec.{leb, lit≤}
+use lib.Dec.{leb}
 use borrow.Author.Tests.{le-leb, lt-leb}
 use Rattle.iscc.specs.Refusals.{areaTooShort}
 use Rattle.iscc.specs.Answer.{accept, into, areaAfter}
 use Rattle.iscc.specs.Header.{Header, headerBytes, writeHeader}
-use Rattle.iscc.specs.Permitted.{setOf, setNumber, unitCount}
+use Rattle.iscc.specs.Permitted.{setOf, unitCount}
 use Rattle.iscc.specs.Meaning.{composite, isIn, setIn, Eight, Sized, Permitted}
 use Rattle.iscc.specs.Item.{itemBytes, itemOf, bytesIn}
 use Rattle.iscc.specs.Forms.{writtenAs}
 use Rattle.iscc.specs.declared.written.Written.{Written}
 use Rattle.iscc.specs.declared.written.Written.the-variants.{Length, Refused}
 use Rattle.iscc.proofs.Header.{length-short}
-use Rattle.iscc.proofs.Permitted.{subtype-small, count-most, set-back}
+use Rattle.iscc.proofs.Permitted.{set-small, subtype-small, count-most, set-back}
 use Rattle.unit.proofs.Parts.{over-twice}
 use Rattle.unit.proofs.Write.{header-written}
 use Rattle.composite.specs.declared.bodies.Composite.{Composite}
@@ -115,16 +115,6 @@ module _ (s v : ℕ) (da ins : List ℕ) where
   body-laid none (some y) none = rw (append-nil y)
   body-laid none none (some z) = refl
   body-laid none none none = refl
-
-  set-small : (a b c : Bool) → setNumber (record { meta = a; semantic = b; content = c }) ≤ 7
-  set-small false false false = lit≤ tt
-  set-small false false true = lit≤ tt
-  set-small false true false = lit≤ tt
-  set-small false true true = lit≤ tt
-  set-small true false false = lit≤ tt
-  set-small true false true = lit≤ tt
-  set-small true true false = lit≤ tt
-  set-small true true true = lit≤ tt
 
   module _ (me se co : Option (List ℕ)) (p : Permitted (composite s v me se co da ins)) where
     pub sound-of : Sound (compositeAs (composite s v me se co da ins))

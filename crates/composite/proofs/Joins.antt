@@ -18,6 +18,7 @@ use Rattle.iscc.specs.Items.{bodyIn, subtypeOf, readUpTo, readItems, joinable, 
 use Rattle.iscc.specs.declared.written.Written.the-variants as written
 use Rattle.iscc.proofs.Answer.{answered}
 use Rattle.iscc.proofs.Items.{items-read, CompositeParts, compositeFrom-parts, compositeFrom-permitted}
+use Rattle.iscc.proofs.Split.{joined-two}
 use Rattle.units.specs.declared.summary.Summary.{Summary}
 use Rattle.units.specs.declared.reader.Reading.{Reading}
 use Rattle.units.specs.declared.reader.Reading.the-variants as reading
@@ -151,10 +152,5 @@ module _ (bs : List ℕ) (l : Summary) (i : Listed bs l) where
       (omega (arith, i .summary .count)) (i .summary .notJoinable))
 
   pub joins-more : 2 ≤ l .count → joinedBytes bs ≡ composedBytes bs
-  unfolding joinedBytes joinedMeaning composedBytes
-  joins-more h =
-      rw (i .read)
-      (one-or-more bs (i .items) (λ is. 2 ≤ length is → (joinedMeaning is >>= λ m. accept (itemBytes (itemOf m))) ≡ (compositeFrom is >>= λ m. accept (itemBytes (itemOf m)))) (i .read)
-      (λ x q c. absurd (omega arith))
-      (λ x y ys q c. refl)
-      (omega (arith, i .summary .count)))
+  unfolding joinedBytes composedBytes
+  joins-more h = rw (i .read, joined-two (i .items) (omega (arith, i .summary .count)))

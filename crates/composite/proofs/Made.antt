@@ -3,23 +3,24 @@ use Prim.Native.Nat.{ℕ, zero, suc, _+_, _≤_, _<_}
 use mathlib.Core.Path.{_≡_, refl, sym, _∙_, ap, subst}
 use mathlib.Core.Bool.{Bool, true, false, cond, not, _||_}
 use mathlib.Core.Option.{Option, none, some}
-use mathlib.Core.List.{List, [], _∷_}
+use mathlib.Core.List.{List, [], _∷_, _++_, map}
 use native.Mathlib.Nat.{le-of-suc-le-suc, not-suc-le-zero}
 use native.Mathlib.Omega.{arith}
-use lib.ListN.{length, take, drop, getD}
-use lib.Dec.{eqb, lit<, lit≤}
+use lib.ListN.{length, take, drop, getD, replicate, length-append, length-replicate}
+use lib.Seq.{length-take-le}
+use lib.Dec.{eqb, lit<}
 use borrow.Author.Tests.{eqb-true, eq-eqb, ne-eqb}
-use Rattle.iscc.specs.Permitted.{META, SEMANTIC, CONTENT, DATA, INSTANCE, Set, setOf, setNumber, unitTypes, unitCount}
+use Rattle.iscc.specs.Permitted.{META, SEMANTIC, CONTENT, DATA, INSTANCE, ID, Set, setOf, setNumber, unitTypes, unitCount}
 use Rattle.iscc.specs.Permitted as permitted
 use Rattle.iscc.specs.Meaning.{Meaning, isIn, setIn, Sized, Eight, Permitted, PermittedComposite}
 use Rattle.iscc.specs.Item.{Item}
 use Rattle.iscc.specs.Lists.{every, pairwise}
 use Rattle.iscc.specs.Items.{sameType, hasSubtype, sharedSubtype, bodyIn, subtypeIn, has, subtypeOf}
-use Rattle.iscc.specs.Forms.{unitSetAs}
+use Rattle.iscc.specs.Forms.{mainTypeAs, unitSetAs}
 use Rattle.iscc.specs.declared.main_type.MainType.{MainType}
 use Rattle.iscc.specs.declared.tables.UnitSet.{UnitSet}
 use Rattle.iscc.proofs.Digits.{and-true}
-use Rattle.iscc.proofs.Permitted.{set-back}
+use Rattle.iscc.proofs.Permitted.{set-back, count-most}
 use Rattle.iscc.proofs.Items.{sameType-eq, CompositeParts, compositeFrom-parts}
 use Rattle.units.specs.declared.summary.Summary.{Summary}
 use Rattle.units.specs.Summary.{Placed, firstSubtype, anySubtyped}
@@ -161,16 +162,11 @@ module _ (l : Summary) (r : Bool) (e : r ≡ anySubtyped (l .places)) where
   subtype-6 t z = rw (← e, t, ne-eqb (getD (l .places) 0 0) 0 z)
 
 -- a set's units fit the table
-pub units-fit : (a b c : Bool) → unitCount (record { meta = a; semantic = b; content = c }) ≤ length (unitSetAs (record { meta = a; semantic = b; content = c }) .units)
-unfolding unitSetAs unitTypes
-units-fit true true true = lit≤ tt
-units-fit true true false = lit≤ tt
-units-fit true false true = lit≤ tt
-units-fit true false false = lit≤ tt
-units-fit false true true = lit≤ tt
-units-fit false true false = lit≤ tt
-units-fit false false true = lit≤ tt
-units-fit false false false = lit≤ tt
+pub units-fit : (s : Set) → unitCount s ≤ length (unitSetAs s .units)
+unfolding unitSetAs
+units-fit s =
+    let n : 5 ≤ length (map mainTypeAs (unitTypes s) ++ replicate 5 (mainTypeAs ID)) = simp (length-append, length-replicate) (omega arith) in
+    omega (arith, count-most s, length-take-le 5 (map mainTypeAs (unitTypes s) ++ replicate 5 (mainTypeAs ID)) n)
 
 module _ (bs : List ℕ) (l : Summary) (m : Meaning) (k : Makes bs l m) where
   abbrev is : List Item
@@ -221,7 +217,7 @@ module _ (bs : List ℕ) (l : Summary) (m : Meaning) (k : Makes bs l m) where
       subst (λ (x : List MainType). There bs (l .places) (getD x i (record { number = 0 }))) (sym (ap (λ (x : UnitSet). x .units) f))
       (all-at (There bs (l .places)) (unitCount set) (unitSetAs set .units) i (record { number = 0 })
       (all-there bs (l .places) (of .dataBody) (of .instanceBody) data-at instance-at (bodyIn META is) (bodyIn SEMANTIC is) (bodyIn CONTENT is) (at META (permitted-parts .meta)) (at SEMANTIC (permitted-parts .semantic)) (at CONTENT (permitted-parts .content)))
-      (omega arith) (units-fit (has META is) (has SEMANTIC is) (has CONTENT is)))
+      (omega arith) (units-fit set))
 
   pub list-made : (u : UnitSet) (r : List (List ℕ)) → u ≡ unitSetAs (setOf (setNumber (setAt (l .places))))
       → r ≡ rows (λ i. take 8 (drop (placeIn (l .places) (u .units) i) bs)) (u .count) 5

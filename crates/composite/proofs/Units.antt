@@ -152,7 +152,7 @@ module _ (c : Composite) (ok : Sound c) where
   unit-ok i h =
       all-at (Ok (c .subtype)) (unitCount set) (unitSetAs set .units) i (record { number = 0 })
       (all-ok (c .subtype) (set .meta) (set .semantic) (set .content) (ap (λ (l : ℕ). compositeSubtype l (c .subtype)) (number-back (c .length) (ok .number)) ∙ ok .subtype))
-      h (units-fit (set .meta) (set .semantic) (set .content))
+      h (units-fit set)
 
   pub unit-long : (i : ℕ) → i < unitCount set → length (itemBytes (unitAt c i)) ≡ 10
   unfolding unitAt

@@ -18,7 +18,7 @@ use Rattle.iscc.specs.declared.written.Written.{Written}
 use Rattle.iscc.specs.declared.written.Written.the-variants as written
 use Rattle.iscc.proofs.Item.{PermittedItem, item-most}
 use Rattle.iscc.proofs.Meaning.{item-permitted, item-back}
-use Rattle.iscc.proofs.Items.{ReadAll, items-read}
+use Rattle.iscc.proofs.Items.{ReadAll, items-read, two-or-more}
 use Rattle.units.specs.declared.summary.Summary.{Summary}
 use Rattle.units.specs.Reading.{refusedIndex}
 use Rattle.units.specs.Verdict.{brokenAt}
@@ -44,13 +44,8 @@ module _ (bs : List ℕ) (l : Summary) (i : Listed bs l) where
       (omega (arith, i .summary .count)) (items-read bs (i .items) b (i .read)))
 
   pub canonical-more : 2 ≤ l .count → canonicalBytes bs ≡ composedBytes bs
-  unfolding canonicalBytes meaningOfItems composedBytes
-  canonical-more h =
-      rw (i .read)
-      (one-or-more bs (i .items) (λ is. 2 ≤ length is → (meaningOfItems is >>= λ m. accept (itemBytes (itemOf m))) ≡ (compositeFrom is >>= λ m. accept (itemBytes (itemOf m)))) (i .read)
-      (λ x q c. absurd (omega arith))
-      (λ x y ys q c. refl)
-      (omega (arith, i .summary .count)))
+  unfolding canonicalBytes composedBytes meaningOfItems
+  canonical-more h = rw (i .read, two-or-more (λ is. meaningOfItems is ≡ compositeFrom is) (λ x y ys. refl) (i .items) (omega (arith, i .summary .count)))
 
   place-is : placeOf bs ≡ brokenAt (i .items)
   unfolding placeOf

@@ -211,7 +211,7 @@ four-read bs P f g e =
     let c = answered (readVarnibble (drop (a .0 .used + b .0 .used) (nibbles bs))) _ (b .2) in
     let d = answered (readVarnibble (drop (a .0 .used + b .0 .used + c .0 .used) (nibbles bs))) _ (c .2) in
     let p = passed (eqb (four bs (a .0) (b .0) (c .0) (d .0) % 2) 0 || eqb (getD (nibbles bs) (four bs (a .0) (b .0) (c .0) (d .0)) 0) 0) _ _ (d .2) in
-    subst P (accept-inj (p .1)) (f (a .0) (b .0) (c .0) (d .0) (record { first = a .1; second = b .1; third = c .1; fourth = d .1; pad = p .0 }))
+    subst P (accept-inj {a = parsedFour bs (a .0) (b .0) (c .0) (d .0)} (p .1)) (f (a .0) (b .0) (c .0) (d .0) (record { first = a .1; second = b .1; third = c .1; fourth = d .1; pad = p .0 }))
 
 pub header-read : (bs : List ℕ) (g : Parsed Header) → Below 256 bs → readHeader bs ≡ accept g → HeaderBack bs g
 header-read bs g k e = four-read bs (HeaderBack bs) (λ a b c d. four-back bs a b c d (nibbles-below bs k)) g e

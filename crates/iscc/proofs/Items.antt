@@ -66,6 +66,12 @@ pub items-read : (bs : List ℕ) (is : List Item) → Below 256 bs → readItems
 unfolding readItems
 items-read bs is k e = up-to (suc (length bs)) bs is k e
 
+-- what holds of every two items with more behind them holds of a list of two or more
+pub two-or-more : (P : List Item → Type 0) → ((i j : Item) (is : List Item) → P (i ∷ j ∷ is)) → (is : List Item) → 2 ≤ length is → P is
+two-or-more P f [] h = absurd (omega (arith, h))
+two-or-more P f (i ∷ []) h = absurd (omega (arith, h))
+two-or-more P f (i ∷ j ∷ is) h = f i j is
+
 -- ---- what a list makes is permitted
 
 pub sameType-eq : (a b : MainType) → sameType a b ≡ true → a ≡ b

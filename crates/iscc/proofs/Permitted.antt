@@ -5,7 +5,7 @@ use mathlib.Core.Bool.{Bool, true, false, cond}
 use native.Mathlib.Omega.{arith}
 use lib.ListN.{List·getD-eq-default}
 use lib.Dec.{eqb, leb, ltb, lit≤}
-use borrow.Author.Tests.{eqb-true, leb-true, ltb-true, eq-eqb}
+use borrow.Author.Tests.{eqb-true, leb-true, ltb-true, le-leb, eq-eqb}
 use Rattle.iscc.specs.Answer.{accept}
 use Rattle.iscc.specs.Permitted.{MainType, META, SEMANTIC, CONTENT, DATA, INSTANCE, ISCC, ID, number, isUnit, typeOf, mainTypeOf, Set, sets, setOf, setNumber, weight, unitCount, compositeSubtype, row, permits, bodyBytes}
 use Rattle.iscc.specs.Item.{lengthNoOf}
@@ -141,21 +141,21 @@ body-most INSTANCE s v l p = let h : Small s v l = small INSTANCE s v l p in ome
 body-most ISCC s v l p = let h : unitCount (setOf l) ≤ 5 = count-most (setOf l) in omega arith
 body-most ID s v l p = let h : Small s v l = small ID s v l p in omega arith
 
-set-small : (a b c : Bool) → leb (setNumber (record { meta = a; semantic = b; content = c })) 7 ≡ true
-set-small false false false = refl
-set-small false false true = refl
-set-small false true false = refl
-set-small false true true = refl
-set-small true false false = refl
-set-small true false true = refl
-set-small true true false = refl
-set-small true true true = refl
+pub set-small : (a b c : Bool) → setNumber (record { meta = a; semantic = b; content = c }) ≤ 7
+set-small false false false = lit≤ tt
+set-small false false true = lit≤ tt
+set-small false true false = lit≤ tt
+set-small false true true = lit≤ tt
+set-small true false false = lit≤ tt
+set-small true false true = lit≤ tt
+set-small true true false = lit≤ tt
+set-small true true true = lit≤ tt
 
 -- the table's row of a composite, by its set
 pub composite-permits : (s v : ℕ) (a b c : Bool) → v ≡ 0 → compositeSubtype (setNumber (record { meta = a; semantic = b; content = c })) s ≡ true
     → permits ISCC s v (setNumber (record { meta = a; semantic = b; content = c })) ≡ true
 unfolding row
-composite-permits s v a b c z e = rw (eq-eqb v 0 z, e) (set-small a b c)
+composite-permits s v a b c z e = rw (eq-eqb v 0 z, e) (le-leb _ 7 (set-small a b c))
 
 pub permits-composite : (s v l : ℕ) → permits ISCC s v l ≡ true → compositeSubtype l s ≡ true
 unfolding row

@@ -21,7 +21,7 @@ use Rattle.iscc.proofs.Answer.{passed, answered, accept-inj, never}
 use Rattle.iscc.specs.Refusals.{lacksDataOrInstance}
 use lib.Seq.{take-all}
 use Rattle.iscc.proofs.Meaning.{meaning-back, item-permitted}
-use Rattle.iscc.proofs.Items.{AllPermitted, read-items, items-read, compositeFrom-permitted}
+use Rattle.iscc.proofs.Items.{AllPermitted, two-or-more, read-items, items-read, compositeFrom-permitted}
 
 -- the units of a composite
 abbrev pub unitsIn : ℕ → Option (List ℕ) → Option (List ℕ) → Option (List ℕ) → List ℕ → List ℕ → List Item
@@ -102,11 +102,9 @@ read-all : (is : List Item) → 0 < length is → AllPermitted is → readItems 
 read-all [] h p = absurd (not-suc-le-zero h)
 read-all (i ∷ is) h p = read-items i is p
 
-joined-two : (is : List Item) → 2 ≤ length is → joinedMeaning is ≡ compositeFrom is
+pub joined-two : (is : List Item) → 2 ≤ length is → joinedMeaning is ≡ compositeFrom is
 unfolding joinedMeaning
-joined-two [] h = absurd (omega (arith, h))
-joined-two (i ∷ []) h = absurd (omega (arith, h))
-joined-two (i ∷ j ∷ is) h = refl
+joined-two = two-or-more (λ is. joinedMeaning is ≡ compositeFrom is) (λ i j is. refl)
 
 two-units : (s : ℕ) (me se co : Option (List ℕ)) (da ins : List ℕ) → 2 ≤ length (unitsIn s me se co da ins)
 two-units s me se co da ins = simp length-append (omega arith)
