@@ -20,8 +20,8 @@ pub struct Fed {
 }
 
 // Takes the piece line by line as long as the area has 74 bytes left, and answers each line that ends. The line begun stands in
-// front of `line`, an area of 1,024 bytes or more, and `held` is its count, at first 0. A count above 1,024 stands for any longer
-// line. Of a shorter area nothing is taken.
+// front of `line`, and `held` is its count, at first 0. A count above 1,024 stands for any longer line. Where `line` has fewer
+// than 1,024 bytes, nothing of the piece is taken.
 pub fn feed(line: &mut [u8], held: usize, piece: &[u8], out: &mut [u8]) -> Fed
     ensures answer { λ r. ⌜ r ≡ fedAs (fedBy (now (line .entry)) held (now (piece .entry)) (length (now (out .entry)))) ⌝ }
     ensures begun { λ _. ⌜ now (line .exit) ≡ lineFor (fedBy (now (line .entry)) held (now (piece .entry)) (length (now (out .entry))) .begun) (now (line .entry)) ⌝ }
