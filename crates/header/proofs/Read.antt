@@ -4,8 +4,7 @@ use mathlib.Core.Path.{_≡_, refl, sym, _∙_, ap}
 use mathlib.Core.Bool.{Bool, true, false, cond, not, _||_}
 use mathlib.Core.List.{List}
 use native.Mathlib.Omega.{arith}
-use lib.Seq.{drop-cons}
-use borrow.Author.Tests.{not-true, not-false, lt-ltb}
+use borrow.Author.Tests.{not-true, not-false}
 use lib.ListN.{length, getD, take, drop}
 use lib.Dec.{eqb, ltb, leb, lit≤}
 use Rattle.iscc.specs.Digits.{value}
@@ -21,15 +20,8 @@ use Rattle.header.specs.declared.reader.Numbers.{Numbers}
 use Rattle.header.specs.declared.reader.HeaderRead.the-variants.{Header, Refused}
 use Rattle.header.specs.Forms.{rowAs, numberAs, NumbersIn, headerReadAs}
 
-abbrev numberOf : ℕ → ℕ → Number
-numberOf x k = record { value = x; width = k }
-
 abbrev none : Number
 none = record { value = 0; width = 0 }
-
-one-nibble : (ns : List ℕ) (i : ℕ) → i < length ns → value 4 (take 1 (drop i ns)) ≡ getD ns i 0
-unfolding value
-one-nibble ns i l = rw (drop-cons ns i 0 l) (omega arith)
 
 -- the varnibble at a place, by what the code finds there
 module _ (bs : List ℕ) (at : ℕ) where
@@ -45,14 +37,6 @@ module _ (bs : List ℕ) (at : ℕ) where
 
     pub number-ones : 15 ≤ h → none ≡ found
     number-ones g = sym (ap numberAs (read-ones (nibbles bs) at within (rw eh at g)))
-
-    pub number-one : h < 8 → record { value = h; width = 1 } ≡ found
-    unfolding rowBy firstOf
-    number-one g =
-        let w : rowBy (getD (nibbles bs) at 0) ≡ 1 = rw (← eh, lt-ltb h 8 g) in
-        let p : value 4 (take 1 (drop at (nibbles bs))) ≡ h = one-nibble (nibbles bs) at within ∙ sym eh in
-        let f : firstOf 1 + value 4 (take 1 (drop at (nibbles bs))) % 2 ^ (3 * 1) ≡ h = rw p (omega arith) in
-        sym (ap numberAs (read-here (nibbles bs) at within (omega arith) 1 w (omega (arith, length-nibbles bs))) ∙ ap (λ (x : ℕ). numberOf x 1) f)
 
     module _ (r : Row) (few : h < 15) (er : r ≡ rowAs (rowBy h)) (some : 1 ≤ r .width) where
       row-width : rowBy (getD (nibbles bs) at 0) ≡ r .width

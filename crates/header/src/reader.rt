@@ -78,13 +78,6 @@ fn number_at(bytes: &[u8], at: usize) -> Number
     if 15 <= first {
         return NONE;
     }
-    // Every permitted header has numbers of one nibble only.
-    if first < 8 {
-        return Number {
-            value: first,
-            width: 1,
-        };
-    }
     let row = rows::row_by(first);
     if bytes.len() <= (at + row.width - 1) / 2 {
         return NONE;

@@ -28,7 +28,7 @@ use Rattle.iscc.specs.Demands.{Demand1, Demand2, UnitBack}
 use Rattle.iscc.proofs.Answer.{never, accept-inj, passed, answered}
 use Rattle.iscc.proofs.ByteDigits.{from-to}
 use Rattle.iscc.proofs.Alphabet.{decode-encode, encode-decode}
-use Rattle.iscc.proofs.Base32.{sound32}
+use Rattle.iscc.proofs.Base32.{sound32, bad-count}
 use Rattle.iscc.proofs.Varnibble.{length-varnibble, read-varnibble, varnibble-read}
 use Rattle.iscc.proofs.Header.{read-header, header-read}
 use Rattle.iscc.proofs.Item.{PermittedItem, UnitWritten, read-item, item-read, unit-written}
@@ -98,6 +98,7 @@ demand1 =
       joinTests = λ bs area b. exactly _ _ (join-by bs area b);
       splitTests = λ bs area. exactly _ _ (split-by bs area);
       distanceTests = λ x y. exactly _ _ (distance-by x y);
+      countOver = bad-count;
       intakeArea = kept-intake;
       base32ReadArea = λ t area. kept-into (decode base32 t) area;
       base32WriteArea = λ bs area. kept-into (accept (encode base32 bs)) area;

@@ -203,9 +203,6 @@ module _ (v : ℕ) (ds : List ℕ) (i o k x : ℕ) (w : v * i ≡ 8 * o) (l : i 
       ap (value v) (sym (take-all (i + k) ds (omega arith))) ∙ value-next ∙ rw (bits-of v k, pow-add, mul-assoc)
 
   -- the spare bits of all digits are those of the last k
-  pub spare-rest : i + k ≡ length ds → value v ds % 2 ^ spareCount v (length ds) ≡ x % 2 ^ spareCount v k
-  spare-rest all =
-      rw (← all, spareCount-join v i o k w, value-rest all) (mul-add-mod-self-right (value v (take i ds) * 2 ^ (8 * byteCount v k)) (2 ^ spareCount v k) x)
 
 module _ (v : ℕ) (ds d : List ℕ) where
   pub record Decoded (area : List ℕ) (i o : ℕ) : Type 0 where

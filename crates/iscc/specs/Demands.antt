@@ -1,18 +1,19 @@
 -- The user's three demands, a field for each sentence, over the definitions that the calls' contracts cite.
 -- proofs/Demands.antt proves them. A byte string is a list with `Below 256`.
 -- Assumes nothing.
-use Prim.Native.Nat.{ℕ, _≤_, _<_}
+use Prim.Native.Nat.{ℕ, _%_, _≤_, _<_}
 use mathlib.Core.Path.{_≡_}
 use mathlib.Core.Logic.{_⊎_, _↔_}
-use mathlib.Core.Bool.{true}
+use mathlib.Core.Bool.{true, not, _||_}
 use mathlib.Core.Option.{Option}
 use mathlib.Core.List.{List, [], _∷_, _++_, map}
+use lib.Dec.{eqb, ltb}
 use lib.ListN.{length, take, drop}
 use lib.IntN.{pos}
 use lib.Ieee.{binary32, ofInt, mul, eq}
 use Rattle.iscc.specs.Refusals.{Refusal}
 use Rattle.iscc.specs.Answer.{Answer, accept, refuse, Accepted, Kept}
-use Rattle.iscc.specs.Digits.{Below, toDigits, fromDigits}
+use Rattle.iscc.specs.Digits.{Below, toDigits, spareCount, fromDigits}
 use Rattle.iscc.specs.Alphabet.{upper, encode, decode}
 use Rattle.iscc.specs.Base32.{base32, readBase32, writeBase32}
 use Rattle.iscc.specs.Varnibble.{Parsed, varnibble, readVarnibble}
@@ -41,6 +42,8 @@ pub record Demand1 : Type 1 where
   pub joinTests : (bs : List ℕ) (area : ℕ) → Below 256 bs → Exactly (joinAllStages bs area) (join bs area)
   pub splitTests : (bs : List ℕ) (area : ℕ) → Exactly (splitStages bs area) (split bs area)
   pub distanceTests : (x y : List ℕ) → Exactly (distanceStages x y) (distance x y)
+  -- 5 in the words of its row: the count of characters leaves 1, 3 or 6 over a multiple of 8
+  pub countOver : (k : ℕ) → ltb (spareCount 5 k) 5 ≡ not (eqb (k % 8) 1 || eqb (k % 8) 3 || eqb (k % 8) 6)
   -- a refusal leaves the area as it was, a success the bytes past those written
   pub intakeArea : (t area : List ℕ) → Kept (intake t (length area)) area
   pub base32ReadArea : (t area : List ℕ) → Kept (readBase32 t (length area)) area

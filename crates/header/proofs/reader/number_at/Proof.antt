@@ -2,7 +2,7 @@
 use native.Mathlib.Omega.{arith}
 use native.Mathlib.Nat.{mod-lt}
 use borrow.Author.Needs.{needs}
-use Rattle.header.proofs.Read.{number-none, number-ones, number-one, number-cut, number-here}
+use Rattle.header.proofs.Read.{number-none, number-ones, number-cut, number-here}
 use Rattle.header.proofs.reader.number_at.Statement.{statement}
 use Rattle.header.proofs.reader.number_at.Tie as tie
 
@@ -18,7 +18,6 @@ number-at-spec =
     (λ c. (search number-none, omega arith))
     (λ c κs. search needs)
     (λ c. (search number-ones, omega arith))
-    (λ c. (search number-one, omega arith))
     (λ c κs. search needs)
     (λ c. search needs)
     (λ c. search needs)
