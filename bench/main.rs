@@ -3,6 +3,7 @@
 mod agree;
 mod inputs;
 mod library;
+mod lines;
 mod measure;
 #[allow(dead_code)]
 #[path = "../tests/compare/random.rs"]
@@ -108,4 +109,12 @@ fn main() {
     println!("|---|---|---|---|---|---|");
     doors();
     layers();
+    // The line program, where its path and a folder for its input are given.
+    let words: Vec<String> = std::env::args().skip(1).collect();
+    if let [program, folder] = &words[..] {
+        let [whole, door, ratio] = lines::measure(program, folder);
+        println!("\n| program | input | program, ns a line | door alone, ns | program / door |");
+        println!("|---|---|---|---|---|");
+        println!("| intake_lines | a million lines of 73 characters | {whole:.1} | {door:.1} | {ratio:.2} |");
+    }
 }

@@ -29,7 +29,7 @@ fn calibrate(side: &mut dyn FnMut(usize)) -> usize {
     calls
 }
 
-fn median(mut figures: Vec<f64>) -> f64 {
+pub fn median(mut figures: Vec<f64>) -> f64 {
     figures.sort_by(f64::total_cmp);
     figures[figures.len() / 2]
 }
