@@ -115,6 +115,23 @@ fn distance(labels: &mut Labels) {
     labels.expect(request("300000000000", "30000000000000"), Response::refused(19));
 }
 
+/// The test vectors of RFC 4648, section 10, without their padding: both ways, either case, and an area one byte short.
+fn rfc_4648(labels: &mut Labels) {
+    let table = ["", "MY", "MZXQ", "MZXW6", "MZXW6YQ", "MZXW6YTB", "MZXW6YTBOI"];
+    for (length, text) in table.into_iter().enumerate() {
+        let bytes = &b"foobar"[..length];
+        let request = |call, first: &[u8], area| Request { first: first.into(), area, ..Request::new(call) };
+        for spelt in [text.to_string(), text.to_lowercase()] {
+            labels.expect(request(Call::Base32Read, spelt.as_bytes(), length), Response::written(bytes.into()));
+        }
+        labels.expect(request(Call::Base32Write, bytes, text.len()), Response::written(text.into()));
+        if length > 0 {
+            labels.expect(request(Call::Base32Read, text.as_bytes(), length - 1), Response::refused(15));
+            labels.expect(request(Call::Base32Write, bytes, text.len() - 1), Response::refused(15));
+        }
+    }
+}
+
 /// What documents 002 and 003 print of the reference library, as document 01 reads it.
 fn published(labels: &mut Labels) {
     labels.written("MEACB7X7777574L6", "ISCC:MEACB7X7777574L6");
@@ -127,13 +144,14 @@ fn published(labels: &mut Labels) {
 }
 
 fn main() -> ExitCode {
-    let blocks: [(&str, fn(&mut Labels)); 7] = [
+    let blocks: [(&str, fn(&mut Labels)); 8] = [
         ("varnibbles", varnibbles),
         ("headers", headers),
         ("line case", line_case),
         ("one unit", one_unit),
         ("short texts", short_texts),
         ("distance", distance),
+        ("RFC 4648", rfc_4648),
         ("published examples", published),
     ];
     let mut labels = Labels { library: Library::new(1 << 16), faults: Vec::new() };
@@ -141,7 +159,7 @@ fn main() -> ExitCode {
     for (name, block) in blocks {
         block(&mut labels);
         let faults = std::mem::take(&mut labels.faults);
-        let detail = if faults.is_empty() { "as document 01 says".to_string() } else { faults.concat() };
+        let detail = if faults.is_empty() { "as written".to_string() } else { faults.concat() };
         tally.check(&format!("labels, {name}"), faults.is_empty(), detail);
     }
     tally.finish()
