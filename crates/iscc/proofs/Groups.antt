@@ -201,7 +201,6 @@ module _ (v : ℕ) (ds : List ℕ) (i o k x : ℕ) (w : v * i ≡ 8 * o) (l : i 
   value-rest : i + k ≡ length ds → value v ds ≡ value v (take i ds) * 2 ^ (8 * byteCount v k) * 2 ^ spareCount v k + x
   value-rest all =
       ap (value v) (sym (take-all (i + k) ds (omega arith))) ∙ value-next ∙ rw (bits-of v k, pow-add, mul-assoc)
-
   -- the spare bits of all digits are those of the last k
 
 module _ (v : ℕ) (ds d : List ℕ) where
