@@ -70,27 +70,19 @@ module _ (t chars chars′ : List ℕ) (c count count′ i i′ : ℕ) (l : i < 
         let s : length (dropHyphens (take i′ t)) ≡ length (dropHyphens (take i t)) + 1 = ap length one-more ∙ length-append (dropHyphens (take i t)) (c ∷ []) in
         omega (arith, k .counted)
 
+    kept-with : chars′ ≡ padded 80 (dropHyphens (take i t) ++ (c ∷ [])) → Kept t chars′ count′ i′
+    kept-with w = record { within = omega arith; fewer = omega (arith, k .fewer); counted = one-counted; stored = w ∙ ap (padded 80) (sym one-more) }
+
     pub kept-stored : count < 80 → chars′ ≡ set chars count c → Kept t chars′ count′ i′
     kept-stored h w =
         let d : List ℕ = dropHyphens (take i t) in
         let q : count ≡ length d = k .counted in
-        record {
-          within = omega arith;
-          fewer = omega (arith, k .fewer);
-          counted = one-counted;
-          stored = w ∙ ap (λ (a : List ℕ). set a count c) (k .stored) ∙ ap (λ (j : ℕ). set (padded 80 d) j c) q ∙ padded-store 80 d c (omega arith) ∙ ap (padded 80) (sym one-more);
-        }
+        kept-with (w ∙ ap (λ (a : List ℕ). set a count c) (k .stored) ∙ ap (λ (j : ℕ). set (padded 80 d) j c) q ∙ padded-store 80 d c (omega arith))
 
     pub kept-counted : 80 ≤ count → chars′ ≡ chars → Kept t chars′ count′ i′
     kept-counted h w =
-        let d : List ℕ = dropHyphens (take i t) in
-        let q : count ≡ length d = k .counted in
-        record {
-          within = omega arith;
-          fewer = omega (arith, k .fewer);
-          counted = one-counted;
-          stored = w ∙ k .stored ∙ padded-full 80 d c (omega arith) ∙ ap (padded 80) (sym one-more);
-        }
+        let q : count ≡ length (dropHyphens (take i t)) = k .counted in
+        kept-with (w ∙ k .stored ∙ padded-full 80 (dropHyphens (take i t)) c (omega arith))
 
 pub kept-all : (t chars : List ℕ) (count i : ℕ) (r : Run) → length t ≤ i → Kept t chars count i → r ≡ record { chars = chars; count = count } → r ≡ runAs (dropHyphens t)
 kept-all t chars count i r l k e =
