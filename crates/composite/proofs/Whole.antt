@@ -4,7 +4,7 @@ use mathlib.Core.Path.{_≡_, refl, sym, _∙_, ap}
 use mathlib.Core.Bool.{true}
 use mathlib.Core.List.{List, [], _∷_, append-nil}
 use native.Mathlib.Omega.{arith}
-use lib.ListN.{length}
+use lib.ListN.{length, replicate}
 use lib.Dec.{leb}
 use borrow.Author.Tests.{le-leb}
 use Rattle.iscc.specs.Refusals.{Refusal}
@@ -13,7 +13,10 @@ use Rattle.iscc.specs.Digits.{Below}
 use Rattle.iscc.specs.Meaning.{Meaning, Permitted}
 use Rattle.iscc.specs.Item.{Item, itemBytes, itemOf}
 use Rattle.iscc.specs.Items.{readItems, itemsBytes, compositeFrom, meaningOfItems}
-use Rattle.iscc.specs.Forms.{writtenAs}
+use Rattle.iscc.specs.Forms.{writtenAs, codeAs, codeReadAs}
+use Rattle.iscc.specs.declared.code.Code.{Code}
+use Rattle.iscc.specs.declared.code.CodeAnswer.the-variants as answers
+use Rattle.iscc.proofs.Codes.{zero-filled, code-is, no-code}
 use Rattle.iscc.specs.declared.written.Written.{Written}
 use Rattle.iscc.specs.declared.written.Written.the-variants as written
 use Rattle.iscc.proofs.Item.{PermittedItem, item-most}
@@ -22,6 +25,7 @@ use Rattle.iscc.proofs.Items.{ReadAll, items-read, two-or-more}
 use Rattle.units.specs.declared.summary.Summary.{Summary}
 use Rattle.units.specs.Reading.{refusedIndex}
 use Rattle.units.specs.Verdict.{brokenAt}
+use Rattle.composite.specs.declared.code.Coded.{Coded}
 use Rattle.composite.specs.declared.code.Coded.the-variants as coded
 use Rattle.composite.specs.Joined.{Listed, composedBytes}
 use Rattle.composite.specs.Canonical.{canonicalBytes, placeOf, codedAs}
@@ -84,3 +88,27 @@ module _ (bs d : List ℕ) (m : Meaning) (p : Permitted m) (e : composedBytes bs
       let u : w ≡ written.Length (length (itemBytes (itemOf m))) = t .0 ∙ ap writtenAs fits in
       let n : _≡_ {A = ℕ} 0 1 = cc in
       omega arith
+
+-- ---- the code by value: written to the front of zeros
+
+module _ (k : ℕ) (x : Answer (List ℕ)) (r : Coded) (answer : r ≡ codedAs k x) where
+  pub code-found : (a : List ℕ) (n : ℕ) → a ≡ areaAfter x (replicate 42 0) → r ≡ coded.Length n
+      → record { answer = answers.Accepted; code = record { bytes = a; length = n } } ≡ codeReadAs k x
+  code-found a n f e = go x (sym e ∙ answer) f
+    where
+      go : (y : Answer (List ℕ)) → coded.Length n ≡ codedAs k y → a ≡ areaAfter y (replicate 42 0)
+          → record { answer = answers.Accepted; code = record { bytes = a; length = n } } ≡ codeReadAs k y
+      go (accept bs) p q =
+          let l : n ≡ length bs = cc in
+          let c : record { bytes = a; length = n } ≡ codeAs bs = rw (q ∙ zero-filled 42 bs, l) (code-is bs) in
+          ap (λ (d : Code). record { answer = answers.Accepted; code = d }) c
+      go (refuse q) p w = let o : _≡_ {A = ℕ} 0 1 = cc in absurd (omega arith)
+
+  pub code-refused : (q : Refusal) (p : ℕ) → r ≡ coded.Refused q p
+      → record { answer = answers.Refused q p; code = record { bytes = replicate 42 0; length = 0 } } ≡ codeReadAs k x
+  code-refused q p e = go x (sym e ∙ answer)
+    where
+      go : (y : Answer (List ℕ)) → coded.Refused q p ≡ codedAs k y
+          → record { answer = answers.Refused q p; code = record { bytes = replicate 42 0; length = 0 } } ≡ codeReadAs k y
+      go (accept bs) w = let o : _≡_ {A = ℕ} 0 1 = cc in absurd (omega arith)
+      go (refuse s) w = let f : q ≡ s = cc in let g : p ≡ k = cc in rw (f, g, no-code)

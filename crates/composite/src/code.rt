@@ -3,9 +3,13 @@ ghost use mathlib.Core.Path.{_≡_};
 ghost use Prim.Native.Nat.{_≤_};
 ghost use lib.ListN.{length};
 ghost use Rattle.iscc.specs.Answer.{areaAfter};
+ghost use Rattle.iscc.specs.Forms.{codeReadAs};
 ghost use Rattle.composite.specs.Joined.{Listed, composedBytes};
 ghost use Rattle.composite.specs.Canonical.{codedAs, placeOf, canonicalBytes};
 use crate::join;
+use iscc::code::Code;
+use iscc::code::CodeAnswer;
+use iscc::code::CodeRead;
 use iscc::refusal::Refusal;
 use iscc::written::Written;
 use units::reader::Reading;
@@ -56,5 +60,28 @@ pub fn canonical(bytes: &[u8], out: &mut [u8]) -> Coded
             }
             code_of_list(bytes, list, out)
         }
+    }
+}
+
+// The code of items laid end to end, by value. Tests 7 to 9 from the left; of two or more items 10 to 14.
+pub fn read(bytes: &[u8]) -> CodeRead
+    ensures { λ r. ⌜ r ≡ codeReadAs (placeOf (now (bytes .entry))) (canonicalBytes (now (bytes .entry))) ⌝ }
+{
+    let mut area = [0u8; 42];
+    match canonical(bytes, &mut area) {
+        Coded::Length(n) => CodeRead {
+            answer: CodeAnswer::Accepted,
+            code: Code {
+                bytes: area,
+                length: n,
+            },
+        },
+        Coded::Refused(q, detail) => CodeRead {
+            answer: CodeAnswer::Refused(q, detail),
+            code: Code {
+                bytes: [0; 42],
+                length: 0,
+            },
+        },
     }
 }

@@ -9,10 +9,10 @@ use Rattle.iscc.specs.Refusals.{Refusal}
 use Rattle.iscc.specs.Answer.{Answer, accept, refuse, _>>=_, areaAfter}
 use Rattle.iscc.specs.Item.{Item, itemBytes, itemOf}
 use Rattle.iscc.specs.Items.{readItems, meaningOfItems}
-use Rattle.iscc.specs.Doors.{payload, codeOf, meaningOfText}
+use Rattle.iscc.specs.Doors.{payload, codeOf, meaningOfText, codeBytes}
 use Rattle.composite.specs.Canonical.{codedAs, placeOf, canonicalBytes}
 use Rattle.door.specs.Payloads.{payloadPlace}
-use Rattle.door.specs.Codes.{codeBytes, codePlace}
+use Rattle.door.specs.Codes.{codePlace}
 use Rattle.composite.specs.declared.code.Coded.{Coded}
 use Rattle.composite.specs.declared.code.Coded.the-variants as coded
 

@@ -10,12 +10,12 @@ use Rattle.iscc.specs.Refusals.{Refusal, areaTooShort, otherText}
 use Rattle.iscc.specs.Answer.{Answer, accept, refuse, _>>=_, _>>_, _otherwise_, areaAfter}
 use Rattle.iscc.specs.Meaning.{Meaning}
 use Rattle.iscc.specs.Item.{itemBytes, itemOf}
-use Rattle.iscc.specs.Doors.{sameText, meaningOfText, textOf, intake, strict}
+use Rattle.iscc.specs.Doors.{sameText, meaningOfText, textOf, codeBytes, intake, strict}
 use Rattle.iscc.proofs.Answer.{answered, accept-inj}
 use Rattle.iscc.proofs.Item.{item-most}
 use Rattle.iscc.proofs.Meaning.{item-permitted}
 use Rattle.iscc.proofs.Doors.{meant}
-use Rattle.door.specs.Codes.{textOfCode, codeBytes}
+use Rattle.door.specs.Codes.{textOfCode}
 use Rattle.composite.specs.Canonical.{codedAs}
 use Rattle.door.specs.Forms.{checkedAs}
 use Rattle.iscc.specs.Forms.{writtenAs}

@@ -1,23 +1,16 @@
 -- A code as bytes: the one unit or composite that a text means. Assumes nothing.
 use Prim.Native.Nat.{ℕ}
 use mathlib.Core.List.{List, _++_}
-use Rattle.iscc.specs.Answer.{Answer, accept, refuse, _>>=_}
+use Rattle.iscc.specs.Answer.{Answer, accept, refuse}
 use Rattle.iscc.specs.Alphabet.{encode}
 use Rattle.iscc.specs.Base32.{base32}
-use Rattle.iscc.specs.Item.{itemBytes, itemOf}
-use Rattle.iscc.specs.Doors.{scheme, payload, meaningOfText}
+use Rattle.iscc.specs.Doors.{scheme, payload}
 use Rattle.composite.specs.Canonical.{placeOf}
 use Rattle.door.specs.Payloads.{payloadPlace}
 
 -- the text of a code's bytes
 abbrev pub textOfCode : List ℕ → List ℕ
 textOfCode bs = scheme ++ encode base32 bs
-
--- the bytes of the one unit or composite that a text means: 2 to 14
-unfoldable pub codeBytes : List ℕ → Answer (List ℕ)
-codeBytes t = do
-  m ← meaningOfText t
-  accept (itemBytes (itemOf m))
 
 -- where a refusal points: of the bytes that the text holds, or of the items that they are read as
 abbrev pub placeBehind : ℕ → Answer (List ℕ) → ℕ

@@ -29,5 +29,6 @@ pub mod Labels
 pub mod Values
 pub mod FirstNot
 pub mod Lent
+pub mod Codes
 pub mod Groups
 pub mod Decoding

@@ -9,7 +9,7 @@ use Rattle.iscc.specs.Answer.{Answer, accept, _>>=_, _>>_, _otherwise_, 
 use Rattle.iscc.specs.Refusals.{emptyText, longText, longRun, areaTooShort, otherText}
 use Rattle.iscc.specs.Alphabet.{Alphabet, upper, encode, decode}
 use Rattle.iscc.specs.Base32.{base32}
-use Rattle.iscc.specs.Item.{Item, itemBytes, itemOf}
+use Rattle.iscc.specs.Item.{Item, itemBytes, itemOf, readOne, meaningOf}
 use Rattle.iscc.specs.Items.{readItems, meaningOfItems}
 use Rattle.iscc.specs.Meaning.{Meaning}
 
@@ -89,6 +89,25 @@ meaningOfText t = do
 -- the one text of a meaning: ISCC: and the capital base32 text of the one unit or composite
 unfoldable pub textOf : Meaning → List ℕ
 textOf m = scheme ++ encode base32 (itemBytes (itemOf m))
+
+-- the bytes of the one unit or composite that a text means: 2, 1, 3 to 14
+unfoldable pub codeBytes : List ℕ → Answer (List ℕ)
+codeBytes t = do
+  m ← meaningOfText t
+  accept (itemBytes (itemOf m))
+
+-- the code of a text, with an output area of so many bytes: 15 below 42, whatever the text
+unfoldable pub readCode : List ℕ → ℕ → Answer (List ℕ)
+readCode t area = do
+  leb 42 area otherwise areaTooShort
+  codeBytes t
+
+-- the text of a code, with an output area of so many bytes: 15 below 73; then 7, 8, 9, 19 of the code's bytes
+unfoldable pub writeText : List ℕ → ℕ → Answer (List ℕ)
+writeText bs area = do
+  leb 73 area otherwise areaTooShort
+  i ← readOne bs
+  accept (textOf (meaningOf i))
 
 -- intake, with an output area of so many bytes: the text that it writes
 unfoldable pub intake : List ℕ → ℕ → Answer (List ℕ)

@@ -1,8 +1,13 @@
 -- The code's types (src/) as forms of the definitions' values. Assumes nothing.
 use Prim.Native.Nat.{ℕ}
-use mathlib.Core.List.{List, _++_, map}
+use mathlib.Core.List.{List, [], _++_, map}
 use lib.ListN.{length, take, replicate}
 use Rattle.iscc.specs.Answer.{Answer, accept, refuse}
+use Rattle.iscc.specs.Lists.{zeroFilled}
+use Rattle.iscc.specs.declared.code.Code.{Code}
+use Rattle.iscc.specs.declared.code.CodeAnswer.{CodeAnswer}
+use Rattle.iscc.specs.declared.code.CodeAnswer.the-variants as answered
+use Rattle.iscc.specs.declared.code.CodeRead.{CodeRead}
 use Rattle.iscc.specs.Permitted.{number, unitTypes, unitCount}
 use Rattle.iscc.specs.Permitted as permitted
 use Rattle.iscc.specs.declared.main_type.MainType.{MainType}
@@ -17,7 +22,7 @@ use Rattle.iscc.specs.declared.written.Written.the-variants.{Length, Ref
 abbrev pub mainTypeAs : permitted.MainType → MainType
 mainTypeAs m = record { number = number m }
 
--- a set of units as the code's table has it: filled up to five places
+-- a set of units as the code's table has it: zeroFilled up to five places
 unfoldable pub unitSetAs : permitted.Set → UnitSet
 unitSetAs s = record { units = take 5 (map mainTypeAs (unitTypes s) ++ replicate 5 (mainTypeAs permitted.ID)); count = unitCount s }
 
@@ -41,3 +46,16 @@ lengthIn (Refused q) = 0
 -- the same for C
 abbrev pub outcomeAs : Written → Outcome
 outcomeAs w = record { number = numberIn w; length = lengthIn w }
+
+-- a code by value: its bytes, filled up with zeros to 42, and how many they are
+unfoldable pub codeAs : List ℕ → Code
+codeAs bs = record { bytes = zeroFilled 42 bs; length = length bs }
+
+-- the answer of what reads or makes a code, with the detail k of its refusal
+abbrev pub codeAnswerAs : ℕ → Answer (List ℕ) → CodeAnswer
+codeAnswerAs k (accept bs) = answered.Accepted
+codeAnswerAs k (refuse q) = answered.Refused q k
+
+abbrev pub codeReadAs : ℕ → Answer (List ℕ) → CodeRead
+codeReadAs k (accept bs) = record { answer = answered.Accepted; code = codeAs bs }
+codeReadAs k (refuse q) = record { answer = answered.Refused q k; code = codeAs [] }

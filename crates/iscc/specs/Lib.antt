@@ -12,6 +12,7 @@ pub mod Meaning
 pub mod Item
 pub mod Items
 pub mod Doors
+pub mod Codes
 pub mod Distance
 pub mod Lines
 pub mod Tests

@@ -1,0 +1,23 @@
+// A code by value: what reads or makes a code answers one, and no caller lends an area for it.
+use crate::refusal::Refusal;
+
+// The longest code, a composite of all five units, in bytes.
+pub const MOST: usize = 42;
+
+// The bytes of one unit or composite, filled up with zeros, and how many they are.
+pub struct Code {
+    pub bytes: [u8; 42],
+    pub length: usize,
+}
+
+// Whether there is a code; or why not, and what the refusal tells: an offset, an item's index or a main type's number.
+pub enum CodeAnswer {
+    Accepted,
+    Refused(Refusal, usize),
+}
+
+// The code that was read. A refusal has zeros and length 0.
+pub struct CodeRead {
+    pub answer: CodeAnswer,
+    pub code: Code,
+}
