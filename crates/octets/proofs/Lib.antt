@@ -1,0 +1,4 @@
+-- The laws that this crate's proofs cite.
+pub mod Same
+pub mod Order
+pub mod Numbers
