@@ -15,7 +15,8 @@ use borrow.Author.Tests.{lt-ltb, eqb-true}
 use Rattle.iscc.specs.Alphabet.{upper, indexOf, digitIn}
 use Rattle.iscc.specs.Base32.{base32}
 use Rattle.iscc.specs.Digits.{value, Below}
-use Rattle.iscc.proofs.Digits.{value-lt, value-append, and-true, below-take, below-drop}
+use Rattle.iscc.proofs.Booleans.{and-true}
+use Rattle.iscc.proofs.Digits.{value-lt, value-append, below-take, below-drop}
 use Rattle.iscc.proofs.Table.{upTo, at}
 
 below-same : (b m : ℕ) (xs : List ℕ) → m < b → Below b (map (λ _. m) xs)

@@ -19,7 +19,7 @@ use Rattle.iscc.specs.Items.{sameType, hasSubtype, sharedSubtype, bodyIn, subty
 use Rattle.iscc.specs.Forms.{mainTypeAs, unitSetAs}
 use Rattle.iscc.specs.declared.main_type.MainType.{MainType}
 use Rattle.iscc.specs.declared.tables.UnitSet.{UnitSet}
-use Rattle.iscc.proofs.Digits.{and-true}
+use Rattle.iscc.proofs.Booleans.{and-true}
 use Rattle.iscc.proofs.Permitted.{set-back, count-most}
 use Rattle.iscc.proofs.Items.{sameType-eq, CompositeParts, compositeFrom-parts}
 use Rattle.units.specs.declared.summary.Summary.{Summary}

@@ -17,7 +17,7 @@ use Rattle.iscc.specs.Item.{Item, readOne}
 use Rattle.iscc.specs.Distance.{ratioOf, comparedBits, comparable, distance, distanceAnswer}
 use Rattle.iscc.specs.Distance as definition
 use Rattle.iscc.proofs.Answer.{passed, answered, accept-inj}
-use Rattle.iscc.proofs.Digits.{and-true}
+use Rattle.iscc.proofs.Booleans.{and-true}
 use Rattle.iscc.proofs.Distance.{apart-most, body-32}
 use Rattle.iscc.proofs.Demands.{demand2}
 use Rattle.unit.specs.Forms.{oneReadAs}

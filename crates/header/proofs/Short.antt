@@ -13,7 +13,7 @@ use Rattle.iscc.specs.Answer.{accept}
 use Rattle.iscc.specs.Digits.{digits}
 use Rattle.iscc.specs.Varnibble.{varnibble, prefixOf, firstOf}
 use Rattle.iscc.specs.Header.{Header, packed, headerBytes, readHeader}
-use Rattle.iscc.proofs.Digits.{and-true}
+use Rattle.iscc.proofs.Booleans.{and-true}
 use Rattle.iscc.proofs.Varnibble.{row-is-1}
 use Rattle.iscc.proofs.Header.{read-header}
 use Rattle.header.specs.declared.reader.HeaderRead.the-variants as read

@@ -18,7 +18,8 @@ use Rattle.iscc.specs.Header.{packed, headerBytes, rawHeader, writeHeader}
 use Rattle.iscc.specs.Header as iscc
 use Rattle.iscc.specs.Forms.{writtenAs}
 use Rattle.iscc.specs.declared.written.Written.the-variants.{Length, Refused}
-use Rattle.iscc.proofs.Digits.{length-digits, and-true}
+use Rattle.iscc.proofs.Booleans.{and-true}
+use Rattle.iscc.proofs.Digits.{length-digits}
 use Rattle.iscc.proofs.Groups.{digits-join}
 use Rattle.iscc.proofs.Header.{Writable, raw-header}
 use Rattle.header.specs.declared.Header.{Header}

@@ -20,7 +20,7 @@ use Rattle.iscc.specs.Alphabet.{encode}
 use Rattle.iscc.specs.Base32.{base32}
 use Rattle.iscc.specs.Items.{Reordered}
 use Rattle.iscc.specs.Demands.{Demand3}
-use Rattle.iscc.proofs.Digits.{and-true}
+use Rattle.iscc.proofs.Booleans.{and-true}
 use Rattle.iscc.proofs.Order.{means-same}
 use Rattle.iscc.specs.Doors.{scheme, sameText, meaningOfText, codeOf, textOf, intake, writtenText, strict}
 use Rattle.iscc.proofs.Answer.{Accepted, accepted, value-of, passed, answered}

@@ -23,7 +23,8 @@ use Rattle.iscc.proofs.Permitted.{Small, small}
 use Rattle.iscc.proofs.Item.{PermittedItem}
 use Rattle.iscc.proofs.Split.{one-read}
 use Rattle.iscc.specs.Distance.{Distance, bitsOf, differingPlaces, differingBits, comparedBits, ratioOf, comparable, distance}
-use Rattle.iscc.proofs.Digits.{length-digits, and-true}
+use Rattle.iscc.proofs.Booleans.{and-true}
+use Rattle.iscc.proofs.Digits.{length-digits}
 use Rattle.iscc.proofs.Table.{upTo, at}
 
 length-bits : (bs : List ℕ) → length (bitsOf bs) ≡ 8 * length bs

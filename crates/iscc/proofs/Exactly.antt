@@ -2,29 +2,26 @@
 use Prim.Native.Nat.{ℕ, _<_}
 use mathlib.Core.Path.{_≡_, refl, sym, _∙_, subst}
 use mathlib.Core.Logic.{inl, inr}
-use mathlib.Core.Bool.{Bool, true, false, false≢true}
 use mathlib.Core.List.{List, [], _∷_}
 use native.Mathlib.Decide.{ℕ-discrete}
 use native.Mathlib.Omega.{arith}
 use native.Mathlib.Decide.{decLt}
 use Rattle.iscc.specs.Answer.{Answer, accept, refuse}
 use Rattle.iscc.specs.Tests.{Rule, HoldAt, BrokenAt, First, AllHold, Exactly}
+use Rattle.iscc.proofs.Booleans.{true-false}
 use Rattle.iscc.proofs.Answer.{never}
 use Rattle.iscc.proofs.Tests.{By}
-
-both : {b : Bool} → b ≡ true → b ≡ false → ⊥
-both e f = false≢true (sym f ∙ e)
 
 broken-one : (rs : List Rule) (k n m : ℕ) → BrokenAt rs n k → BrokenAt rs m k → n ≡ m
 broken-one [] k n m x y = absurd x
 broken-one (r ∷ rs) k n m (inl x) (inl y) = sym (x .0) ∙ y .0
-broken-one (r ∷ rs) k n m (inl x) (inr y) = absurd (both (y .0) (x .1))
-broken-one (r ∷ rs) k n m (inr x) (inl y) = absurd (both (x .0) (y .1))
+broken-one (r ∷ rs) k n m (inl x) (inr y) = absurd (true-false (y .0) (x .1))
+broken-one (r ∷ rs) k n m (inr x) (inl y) = absurd (true-false (x .0) (y .1))
 broken-one (r ∷ rs) k n m (inr x) (inr y) = broken-one rs k n m (x .1) (y .1)
 
 holds-broken : (rs : List Rule) (k n : ℕ) → HoldAt rs k → BrokenAt rs n k → ⊥
 holds-broken [] k n h x = x
-holds-broken (r ∷ rs) k n h (inl x) = both (h .0) (x .1)
+holds-broken (r ∷ rs) k n h (inl x) = true-false (h .0) (x .1)
 holds-broken (r ∷ rs) k n h (inr x) = holds-broken rs k n (h .1) (x .1)
 
 first-one : (ss : List (List Rule)) (n k m j : ℕ) → First ss n k → First ss m j → n ≡ m

@@ -1,7 +1,7 @@
 -- The laws of raw headers. Assumes nothing.
 use Prim.Native.Nat.{ℕ, zero, suc, _+_, _-_, _*_, _/_, _%_, _≤_, _<_}
 use mathlib.Core.Path.{_≡_, refl, sym, _∙_, ap, subst}
-use mathlib.Core.Bool.{Bool, true, false, _||_}
+use mathlib.Core.Bool.{true, _||_}
 use mathlib.Core.Logic.{_⊎_, inl, inr}
 use mathlib.Core.List.{List, [], _∷_, _++_, append-assoc}
 use native.Mathlib.Nat.{not-suc-le-zero, le-of-suc-le-suc}
@@ -14,6 +14,7 @@ use Rattle.iscc.specs.Answer.{accept}
 use Rattle.iscc.specs.Digits.{Below}
 use Rattle.iscc.specs.Varnibble.{rowOf, varnibble, Parsed, writeVarnibble, readVarnibble}
 use Rattle.iscc.specs.Header.{Header, nibbles, packed, headerBytes, rawHeader, readHeader}
+use Rattle.iscc.proofs.Booleans.{or-left, or-right, or-cases}
 use Rattle.iscc.proofs.Digits.{below-append, below-drop}
 use Rattle.iscc.proofs.Answer.{passed, answered, accept-inj}
 use Rattle.iscc.proofs.Varnibble.{parsed, length-varnibble, varnibble-below, read-varnibble, Back, varnibble-read}
@@ -47,13 +48,6 @@ pad-cases : (ns : List ℕ) → (length ns % 2 ≡ 0) ⊎ (padOf ns ≡ 0 ∷ []
 pad-cases [] = inl refl
 pad-cases (a ∷ []) = inr refl
 pad-cases (a ∷ b ∷ ns) = elim (pad-cases ns) [ inl e ↦ inl (omega arith) | inr e ↦ inr e ]
-
-or-left : (a b : Bool) → a ≡ true → a || b ≡ true
-or-left a b e = rw e
-
-or-right : (a b : Bool) → b ≡ true → a || b ≡ true
-or-right true b e = refl
-or-right false b e = e
 
 pad-ok : (ns rest : List ℕ) → (eqb (length ns % 2) 0 || eqb (getD (ns ++ (padOf ns ++ rest)) (length ns) 0) 0) ≡ true
 pad-ok ns rest =
@@ -154,10 +148,6 @@ packed-nibbles (b ∷ bs) (suc (suc n)) l e =
     let i : packed (take n (nibbles bs)) ≡ take ((n + 1) / 2) bs =
     packed-nibbles bs n (omega arith) (elim e [ inl x ↦ inl (omega arith) | inr x ↦ inr x ]) in
     rw (y, h, i)
-
-or-cases : (a b : Bool) → a || b ≡ true → (a ≡ true) ⊎ (b ≡ true)
-or-cases true b e = inl refl
-or-cases false b e = inr e
 
 pub record HeaderBack (bs : List ℕ) (g : Parsed Header) : Type 0 where
   pub writable : Writable (g .result)

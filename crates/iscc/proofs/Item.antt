@@ -16,7 +16,8 @@ use Rattle.iscc.specs.Permitted.{MainType, number, mainTypeOf, isUnit, p
 use Rattle.iscc.specs.Meaning.{Sized}
 use Rattle.iscc.specs.Item.{Item, headerOf, itemWith, itemBytes, readItem, unitBytes}
 use Rattle.iscc.proofs.Answer.{passed, answered, accept-inj}
-use Rattle.iscc.proofs.Digits.{below-append, below-take, below-drop, and-true}
+use Rattle.iscc.proofs.Booleans.{and-true}
+use Rattle.iscc.proofs.Digits.{below-append, below-take, below-drop}
 use Rattle.iscc.proofs.Header.{Writable, read-header, header-below, length-short, header-read}
 use Rattle.iscc.proofs.Permitted.{mainTypeOf-number, mainTypeOf-back, number-small, Small, small, body-most}
 

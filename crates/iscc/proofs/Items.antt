@@ -20,7 +20,8 @@ use Rattle.iscc.specs.Item.{Item, itemBytes, readItem, meaningOf}
 use Rattle.iscc.specs.Lists.{every, pairwise}
 use Rattle.iscc.specs.Items.{readUpTo, readItems, sameType, joinable, is64Bits, otherType, sharedSubtype, bodyIn, subtypeIn, has, subtypeOf, requiredBody, compositeFrom, meaningOfItems, itemsBytes, orMissing}
 use Rattle.iscc.proofs.Answer.{passed, answered, never, accept-inj}
-use Rattle.iscc.proofs.Digits.{and-true, below-drop}
+use Rattle.iscc.proofs.Booleans.{and-true}
+use Rattle.iscc.proofs.Digits.{below-drop}
 use Rattle.iscc.proofs.Permitted.{mainTypeOf-number}
 use Rattle.iscc.proofs.Item.{PermittedItem, read-item, ReadItem, item-read, length-item}
 use Rattle.iscc.proofs.Meaning.{meant-item}

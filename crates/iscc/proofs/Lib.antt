@@ -1,4 +1,5 @@
 -- The laws of the definitions, proved once and cited by the proofs of the crates above.
+pub mod Booleans
 pub mod Answer
 pub mod Digits
 pub mod ByteDigits

@@ -1,7 +1,7 @@
 -- Lists tested element by element: every element, every pair, and one more element behind. Assumes nothing.
-use Prim.Native.Nat.{ℕ, zero, suc, _+_}
+use Prim.Native.Nat.{ℕ, suc}
 use mathlib.Core.Path.{_≡_, refl, sym, _∙_, ap}
-use mathlib.Core.Bool.{Bool, true, false, cond, _&&_}
+use mathlib.Core.Bool.{Bool, true, false, cond, _&&_, and-true, and-assoc}
 use mathlib.Core.List.{List, [], _∷_, _++_, append-assoc, append-nil}
 use native.Mathlib.Decide.{ℕ-discrete}
 use native.Mathlib.Nat.{suc-inj}
@@ -10,25 +10,12 @@ use lib.ListN.{length}
 use lib.Dec.{eqb}
 use borrow.Author.Tests.{eq-eqb, ne-eqb}
 use Rattle.iscc.specs.Lists.{every, pairwise, firstNot, firstClash}
-
-and-one : (a : Bool) → a && true ≡ a
-and-one true = refl
-and-one false = refl
-
-and-assoc : (a b c : Bool) → a && (b && c) ≡ (a && b) && c
-and-assoc true b c = refl
-and-assoc false b c = refl
-
-pub and-four : (a b c d : Bool) → (a && b) && (c && d) ≡ (a && c) && (b && d)
-and-four true true c d = refl
-and-four true false true d = refl
-and-four true false false d = refl
-and-four false b c d = refl
+use Rattle.iscc.proofs.Booleans.{and-four}
 
 pub every-append : {A : Type 0} (p : A → Bool) (xs : List A) (y : A) → every p (xs ++ (y ∷ [])) ≡ every p xs && p y
 unfolding every
-every-append p [] y = and-one (p y)
-every-append p (x ∷ xs) y = rw (every-append p xs y) (and-assoc (p x) (every p xs) (p y))
+every-append p [] y = and-true (p y)
+every-append p (x ∷ xs) y = rw (every-append p xs y) (sym (and-assoc (p x) (every p xs) (p y)))
 
 pub every-and : {A : Type 0} (p q : A → Bool) (xs : List A) → every (λ x. p x && q x) xs ≡ every p xs && every q xs
 unfolding every
@@ -58,12 +45,7 @@ module _ {A : Type 0} (r : A → A → Bool) where
       let a : every (λ y. every (λ e. r e y) (before ++ (x ∷ []))) xs ≡ every (λ y. every (λ e. r e y) before) xs && every (r x) xs =
       every-same (λ y. every (λ e. r e y) (before ++ (x ∷ []))) (λ y. every (λ e. r e y) before && r x y) (λ y. every-append (λ e. r e y) before x) xs
       ∙ every-and (λ y. every (λ e. r e y) before) (r x) xs in
-      rw (clear-is (before ++ (x ∷ [])) xs, a) (regroup (every (λ e. r e x) before) (every (λ y. every (λ e. r e y) before) xs) (every (r x) xs) (pairwise r xs))
-    where
-      regroup : (a b c d : Bool) → a && (b && c && d) ≡ (a && b) && (c && d)
-      regroup true true c d = refl
-      regroup true false c d = refl
-      regroup false b c d = refl
+      rw (clear-is (before ++ (x ∷ [])) xs, a) (simp and-assoc)
 
   pub clear-all : (xs : List A) → clear [] xs ≡ pairwise r xs
   unfolding every

@@ -13,14 +13,8 @@ use Rattle.iscc.specs.Permitted.{MainType, META, SEMANTIC, CONTENT, DATA
 use Rattle.iscc.specs.Item.{Item}
 use Rattle.iscc.specs.Lists.{every, pairwise}
 use Rattle.iscc.specs.Items.{sameType, joinable, is64Bits, otherType, hasSubtype, sharedSubtype, bodyIn, subtypeIn, subtypeOf, compositeFrom, meaningOfItems, Reordered, nil, keep, swap, then}
-use Rattle.iscc.proofs.Digits.{and-true}
-use Rattle.iscc.proofs.Lists.{and-four}
+use Rattle.iscc.proofs.Booleans.{and-true, and-swap, and-four}
 use Rattle.iscc.proofs.Items.{sameType-eq}
-
-and-swap : (a b c : Bool) → a && (b && c) ≡ b && (a && c)
-and-swap true b c = refl
-and-swap false true c = refl
-and-swap false false c = refl
 
 pub eqb-comm : (x y : ℕ) → eqb x y ≡ eqb y x
 eqb-comm x y = elim (ℕ-discrete x y) [ yes e ↦ rw e | no d ↦ ne-eqb x y d ∙ sym (ne-eqb y x (λ e. d (sym e))) ]

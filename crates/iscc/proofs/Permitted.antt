@@ -10,7 +10,7 @@ use Rattle.iscc.specs.Answer.{accept}
 use Rattle.iscc.specs.Permitted.{MainType, META, SEMANTIC, CONTENT, DATA, INSTANCE, ISCC, ID, number, isUnit, typeOf, mainTypeOf, Set, sets, setOf, setNumber, weight, unitCount, compositeSubtype, row, permits, bodyBytes}
 use Rattle.iscc.specs.Item.{lengthNoOf}
 use Rattle.iscc.proofs.Answer.{accept-inj, passed}
-use Rattle.iscc.proofs.Digits.{and-true}
+use Rattle.iscc.proofs.Booleans.{and-true}
 use Rattle.iscc.proofs.Table.{upTo, at}
 
 pub mainTypeOf-number : (m : MainType) → mainTypeOf (number m) ≡ accept m

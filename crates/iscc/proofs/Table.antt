@@ -8,7 +8,7 @@ use lib.ListN.{getD}
 use native.Mathlib.Nat.{add-zero, zero-add, add-suc, suc-add, le-of-suc-le-suc, not-suc-le-zero}
 use native.Mathlib.Decide.{ℕ-discrete}
 use native.Mathlib.Omega.{arith}
-use Rattle.iscc.proofs.Digits.{and-true}
+use Rattle.iscc.proofs.Booleans.{and-true}
 
 unfoldable pub upTo : ℕ → (ℕ → Bool) → Bool
 upTo zero p = true

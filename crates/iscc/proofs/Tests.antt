@@ -24,7 +24,8 @@ use lib.ListN.{length, take, drop, getD, length-drop, length-take}
 use lib.Dec.{eqb, leb, ltb, lit<}
 use borrow.Author.Tests.{eq-eqb, ne-eqb, leb-false}
 use Rattle.iscc.specs.Permitted.{MainType, META, SEMANTIC, CONTENT, DATA, INSTANCE, ISCC, ID, number, mainTypeOf, permits, typeOf, bodyBytes}
-use Rattle.iscc.proofs.Digits.{and-true, below-drop}
+use Rattle.iscc.proofs.Booleans.{and-true}
+use Rattle.iscc.proofs.Digits.{below-drop}
 use Rattle.iscc.specs.Refusals.{Refusal, badHeader, lacksDataOrInstance, notJoinable, not64Bits, mainTypeTwice, subtypesDiffer, notPermitted, shortBody, badCount, badCharacter, spareBits, emptyText, longRun, areaTooShort, otherText, longText}
 use Rattle.iscc.specs.Answer.{Answer, accept, refuse, _>>=_, _>>_, _otherwise_, into}
 use Rattle.iscc.specs.Digits.{Below, fromDigits, allBelow, spareCount, value}

@@ -1,7 +1,7 @@
 -- The table of permitted headers by the number of a main type. Assumes nothing.
 use Prim.Native.Nat.{ℕ, zero, suc, _+_, _*_, _≤_, _<_}
 use mathlib.Core.Path.{_≡_, refl, sym, _∙_}
-use mathlib.Core.Bool.{Bool, true, false, _&&_}
+use mathlib.Core.Bool.{Bool, true, false, _&&_, and-true, and-false}
 use native.Mathlib.Omega.{arith}
 use lib.Dec.{eqb, leb, ltb}
 use borrow.Author.Tests.{lt-ltb, le-ltb, ne-eqb, eq-eqb, eqb-true, eqb-false, le-leb, lt-leb}
@@ -21,14 +21,6 @@ seven P a b c d e f g (suc (suc (suc (suc zero)))) h = e
 seven P a b c d e f g (suc (suc (suc (suc (suc zero))))) h = f
 seven P a b c d e f g (suc (suc (suc (suc (suc (suc zero)))))) h = g
 seven P a b c d e f g (suc (suc (suc (suc (suc (suc (suc n))))))) h = absurd (omega arith)
-
-pub and-false : (a : Bool) → a && false ≡ false
-and-false true = refl
-and-false false = refl
-
-and-true-right : (a : Bool) → a && true ≡ a
-and-true-right true = refl
-and-true-right false = refl
 
 at-most-0 : (s : ℕ) → leb s 0 ≡ eqb s 0
 at-most-0 zero = refl
@@ -57,7 +49,7 @@ module _ (n s l : ℕ) {t : Bool} where
 
   pub row-composite : {r : Bool} → t ≡ eqb n 5 → t ≡ true → l ≤ 7 → r ≡ compositeSubtype l s → r ≡ row (typeOf n) s l
   unfolding row typeOf
-  row-composite e h k g = g ∙ rw (is-yes n 5 e h, le-leb l 7 k) (sym (and-true-right (compositeSubtype l s)))
+  row-composite e h k g = g ∙ rw (is-yes n 5 e h, le-leb l 7 k) (sym (and-true (compositeSubtype l s)))
 
   pub row-id : {r : Bool} → t ≡ eqb n 6 → t ≡ true → r ≡ (leb s 5 && leb l 4) → r ≡ row (typeOf n) s l
   unfolding row typeOf

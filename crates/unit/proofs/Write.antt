@@ -1,7 +1,7 @@
 -- What the writer's tests say of `writeUnit`. Assumes nothing.
 use Prim.Native.Nat.{ℕ, _+_, _≤_, _<_}
 use mathlib.Core.Path.{_≡_, refl, sym, _∙_, ap}
-use mathlib.Core.Bool.{Bool, true, false, not}
+use mathlib.Core.Bool.{Bool, true, false, not, and-false}
 use mathlib.Core.List.{List, _++_}
 use native.Mathlib.Omega.{arith}
 use native.Mathlib.Decide.{decLt}
@@ -18,11 +18,11 @@ use Rattle.iscc.specs.Forms.{writtenAs}
 use Rattle.iscc.specs.declared.main_type.MainType.{MainType}
 use Rattle.iscc.specs.declared.written.Written.{Written}
 use Rattle.iscc.specs.declared.written.Written.the-variants.{Length, Refused}
-use Rattle.iscc.proofs.Digits.{and-true}
+use Rattle.iscc.proofs.Booleans.{and-true}
 use Rattle.iscc.proofs.Header.{length-short, raw-header}
 use Rattle.iscc.proofs.Permitted.{Small, small}
 use Rattle.unit.specs.Forms.{permitsAs, headerOf}
-use Rattle.unit.proofs.Table.{seven, is-yes, is-no, and-false}
+use Rattle.unit.proofs.Table.{seven, is-yes, is-no}
 
 -- every main type but a composite's is a unit's
 unit-by : (n : ℕ) → n < 7 → (n ≡ 5 → ⊥) → isUnit (typeOf n) ≡ true

@@ -11,7 +11,7 @@ use Rattle.iscc.specs.Meaning.{isIn}
 use Rattle.iscc.specs.Item.{Item}
 use Rattle.iscc.specs.Lists.{every, pairwise}
 use Rattle.iscc.specs.Items.{sameType, otherType, hasSubtype, sharedSubtype, bodyIn, has}
-use Rattle.iscc.proofs.Digits.{and-true}
+use Rattle.iscc.proofs.Booleans.{and-true}
 use Rattle.iscc.proofs.Order.{eqb-comm}
 use Rattle.iscc.proofs.Lists.{every-true, every-same}
 use Rattle.units.specs.Summary.{firstSubtype}

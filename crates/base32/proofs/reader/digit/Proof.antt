@@ -7,7 +7,7 @@ use borrow.Author.Needs.{needs}
 use borrow.Author.Tests.{lt-ltb, leb-true, eqb-true}
 use Rattle.iscc.specs.Alphabet.{upper, indexOf, digitIn}
 use Rattle.iscc.specs.Base32.{base32}
-use Rattle.iscc.proofs.Digits.{and-true}
+use Rattle.iscc.proofs.Booleans.{and-true}
 use Rattle.iscc.proofs.Table.{upTo, at}
 use Rattle.base32.proofs.reader.digit.Statement.{statement}
 use Rattle.base32.proofs.reader.digit.Tie as tie
