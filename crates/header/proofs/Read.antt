@@ -1,18 +1,18 @@
 -- What the reader's tests say of `readVarnibble` and `readHeader`. Assumes nothing.
 use Prim.Native.Nat.{ℕ, _+_, _-_, _*_, _/_, _%_, _^_, _≤_, _<_}
 use mathlib.Core.Path.{_≡_, refl, sym, _∙_, ap}
-use mathlib.Core.Bool.{Bool, true, false, cond, not, _||_}
+use mathlib.Core.Bool.{Bool, true, false, not, _||_}
 use mathlib.Core.List.{List}
 use native.Mathlib.Omega.{arith}
 use borrow.Author.Tests.{not-true, not-false}
 use lib.ListN.{length, getD, take, drop}
-use lib.Dec.{eqb, ltb, leb, lit≤}
+use lib.Dec.{eqb, ltb, leb}
 use Rattle.iscc.specs.Digits.{value}
 use Rattle.iscc.specs.Varnibble.{Parsed, firstOf, rowBy, readVarnibble}
 use Rattle.iscc.specs.Answer.{Answer, accept, refuse, _>>_, _otherwise_}
 use Rattle.iscc.specs.Refusals.{badHeader}
 use Rattle.iscc.specs.Header.{nibbles, readHeader}
-use Rattle.iscc.proofs.Varnibble.{parsed, read-none, read-ones, read-cut, read-here}
+use Rattle.iscc.proofs.Varnibble.{parsed, row-some, read-ones, read-cut, read-here}
 use Rattle.iscc.proofs.Header.{length-nibbles}
 use Rattle.header.specs.declared.reader.Number.{Number}
 use Rattle.header.specs.declared.rows.Row.{Row}
@@ -29,14 +29,11 @@ module _ (bs : List ℕ) (at : ℕ) where
   found = numberAs (readVarnibble (drop at (nibbles bs)))
 
   pub number-none : length bs ≤ at / 2 → none ≡ found
-  number-none l = sym (ap numberAs (read-none (nibbles bs) at (omega (arith, length-nibbles bs))))
+  number-none l = sym (ap numberAs (read-cut (nibbles bs) at (omega (arith, length-nibbles bs, row-some (getD (nibbles bs) at 0)))))
 
   module _ {h : ℕ} (there : at / 2 < length bs) (eh : h ≡ getD (nibbles bs) at 0) where
-    within : at < length (nibbles bs)
-    within = omega (arith, length-nibbles bs)
-
     pub number-ones : 15 ≤ h → none ≡ found
-    number-ones g = sym (ap numberAs (read-ones (nibbles bs) at within (rw eh at g)))
+    number-ones g = sym (ap numberAs (read-ones (nibbles bs) at (rw eh at g)))
 
     module _ (r : Row) (few : h < 15) (er : r ≡ rowAs (rowBy h)) (some : 1 ≤ r .width) where
       row-width : rowBy (getD (nibbles bs) at 0) ≡ r .width
@@ -44,7 +41,7 @@ module _ (bs : List ℕ) (at : ℕ) where
 
       pub number-cut : length bs ≤ (at + r .width - 1) / 2 → none ≡ found
       number-cut l =
-          sym (ap numberAs (read-cut (nibbles bs) at within (rw eh at few) (rw row-width (omega (arith, length-nibbles bs)))))
+          sym (ap numberAs (read-cut (nibbles bs) at (rw row-width (omega (arith, length-nibbles bs)))))
 
       pub number-here : {v : ℕ} → (at + r .width - 1) / 2 < length bs → v ≡ value 4 (take (r .width) (drop at (nibbles bs)))
           → record { value = r .first + v % r .count; width = r .width } ≡ found
@@ -53,19 +50,9 @@ module _ (bs : List ℕ) (at : ℕ) where
           let w : rowBy h ≡ k = ap (λ (x : Row). x .width) (sym er) in
           let f : r .first ≡ firstOf k = ap (λ (x : Row). x .first) er ∙ ap firstOf w in
           let c : r .count ≡ 2 ^ (3 * k) = ap (λ (x : Row). x .count) er ∙ ap (λ (j : ℕ). 2 ^ (3 * j)) w in
-          rw (f, c, ev) (sym (ap numberAs (read-here (nibbles bs) at within (rw eh at few) k row-width (omega (arith, length-nibbles bs)))))
+          rw (f, c, ev, ← row-width) (sym (ap numberAs (read-here (nibbles bs) at (rw eh at few) (rw row-width (omega (arith, length-nibbles bs))))))
 
 -- ---- what a width says of the varnibble read
-
-row-some : (a b c : Bool) → 1 ≤ cond a 1 (cond b 2 (cond c 3 4))
-row-some true b c = lit≤ tt
-row-some false true c = lit≤ tt
-row-some false false true = lit≤ tt
-row-some false false false = lit≤ tt
-
-some-by : (h : ℕ) → 1 ≤ rowBy h
-unfolding rowBy
-some-by h = row-some (ltb h 8) (ltb h 12) (ltb h 14)
 
 only-7 : (a b c : Bool) (g : Parsed ℕ) (n : Number) → 1 ≤ g .used → n .width ≡ 0
     → n ≡ numberAs (a otherwise badHeader >> (b otherwise badHeader >> (c otherwise badHeader >> accept g)))
@@ -77,7 +64,7 @@ only-7 true true true g n l z e = absurd (omega (arith, ap (λ (x : Number). x .
 
 stopped : (ns : List ℕ) (n : Number) → n ≡ numberAs (readVarnibble ns) → n .width ≡ 0 → readVarnibble ns ≡ refuse badHeader
 unfolding readVarnibble
-stopped ns n e z = only-7 (ltb 0 (length ns)) (ltb (getD ns 0 0) 15) (leb (rowBy (getD ns 0 0)) (length ns)) _ n (some-by (getD ns 0 0)) z e
+stopped ns n e z = only-7 (ltb 0 (length ns)) (ltb (getD ns 0 0) 15) (leb (rowBy (getD ns 0 0)) (length ns)) _ n (row-some (getD ns 0 0)) z e
 
 accepted-number : (r : Answer (Parsed ℕ)) (n : Number) → n ≡ numberAs r → (n .width ≡ 0 → ⊥) → r ≡ accept (parsed (n .value) (n .width))
 accepted-number (accept g) n e z = ap (λ (x : Number). accept (parsed (x .value) (x .width))) (sym e)

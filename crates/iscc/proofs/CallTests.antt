@@ -1,93 +1,85 @@
--- The calls on one header, one unit, one composite and two units answer as their tests say. Assumes nothing.
-use Prim.Native.Nat.{ℕ}
+-- Each call answers as its tests say, in the order of RefusalOrder.antt.
+use Prim.Native.Nat.{ℕ, _%_, _^_}
 use mathlib.Core.Path.{_≡_, refl, sym, subst}
-use mathlib.Core.Logic.{inl, inr}
-use mathlib.Core.Bool.{Bool, true, false, _&&_}
-use mathlib.Core.List.{List, [], _∷_, _++_}
-use native.Mathlib.Nat.{not-suc-le-zero}
-use lib.ListN.{length, drop}
-use lib.Dec.{leb, ltb}
-use Rattle.iscc.specs.Refusals.{Refusal, badHeader, notPermitted, shortBody, areaTooShort, numberTooLarge, noDistance, bytesLeftOver}
-use Rattle.iscc.specs.Answer.{Answer, accept, _>>=_, _>>_, _otherwise_}
+use mathlib.Core.Bool.{true, false, _&&_}
+use mathlib.Core.List.{List, [], _∷_, map}
+use lib.ListN.{length}
+use lib.Dec.{eqb, leb, ltb}
+use Rattle.iscc.specs.Refusals.{emptyText, longText, longRun, badCharacter, badCount, spareBits, notPermitted, shortBody, areaTooShort, otherText, numberTooLarge, noDistance}
+use Rattle.iscc.specs.Answer.{accept, _>>=_}
 use Rattle.iscc.specs.Lists.{every}
-use Rattle.iscc.specs.Alphabet.{encode}
-use Rattle.iscc.specs.Base32.{base32, writeBase32}
+use Rattle.iscc.specs.Digits.{Below, fromDigits, allBelow, spareCount, value}
+use Rattle.iscc.specs.Alphabet.{Alphabet, isDigit, digitIn, encode, decode}
+use Rattle.iscc.specs.Base32.{base32, readBase32, writeBase32}
 use Rattle.iscc.specs.Varnibble.{varnibble, writeVarnibble}
-use Rattle.iscc.specs.Header.{Header, packed, headerBytes, rawHeader, readHeader, writeHeader}
+use Rattle.iscc.specs.Header.{Header, headerBytes, rawHeader, writeHeader}
 use Rattle.iscc.specs.Permitted.{MainType, META, SEMANTIC, CONTENT, DATA, INSTANCE, ISCC, ID, typeOf, mainTypeOf, isUnit, permits, bodyBytes}
-use Rattle.iscc.specs.Item.{compositeOf, meaningAs, meaningOf, readItem, readOne, unitBytes, writeUnit}
-use Rattle.iscc.specs.Items.{sameType, unitsOf, itemsBytes, splitBytes, split}
+use Rattle.iscc.specs.Item.{itemBytes, itemOf, compositeOf, meaningAs, meaningOf, readOne, unitBytes, writeUnit}
+use Rattle.iscc.specs.Items.{sameType, unitsOf, itemsBytes, readItems, meaningOfItems, joinedMeaning, joinedBytes, join, splitBytes, split}
+use Rattle.iscc.specs.Doors.{cleaned, sameText, decodeRun, payload, codeOf, meaningOfText, textOf, codeBytes, readCode, writeText, intake, strict}
 use Rattle.iscc.specs.Distance.{comparable, distance}
-use Rattle.iscc.specs.Tests.{HoldAt, BrokenAt, First, rule, once, headHolds, headerReads, headerPermitted, bodyThere, itemTest, itemStage, writeStages, headerStages, writeHeaderStages, unitStages, oneStages, writeUnitStages, splitStages, distanceStages}
-use Rattle.iscc.proofs.Tests.{By, step-once, done, after-part, into-by, step-every, header-only, item-broken, item-holds}
+use Rattle.iscc.specs.Exactly.{once, whereAccepted}
+use Rattle.iscc.specs.RefusalOrder.{digitStages, runStages, textStages, itemStage, meaningStages, doorStages, intakeStages, strictStages, readStages, writeStages, writeUnitStages, writeHeaderStages, joinStages, joinAllStages, oneStages, splitStages, distanceStages, readCodeStages, writeTextStages}
+use Rattle.iscc.proofs.Answer.{bind-assoc, Tested, tests-join}
+use Rattle.iscc.proofs.Doors.{payload-below}
+use Rattle.iscc.proofs.Steps.{By, done, step-once, behind, made-of, into-by}
+use Rattle.iscc.proofs.FirstBroken.{step-every}
+use Rattle.iscc.proofs.ItemTests.{type-test, one-by, items-by, some-items}
+use Rattle.iscc.proofs.ListTests.{meaning-by, joined-by}
 
--- ---- base32 and raw headers
+-- ---- a text: 2, 1, 3, 4, 5, 6
+
+below-is-every : (a : Alphabet) (xs : List ℕ) → allBelow (2 ^ a .bits) (map (digitIn a) xs) ≡ every (isDigit a) xs
+unfolding allBelow every
+below-is-every a [] = refl
+below-is-every a (x ∷ xs) = rw (below-is-every a xs)
+
+decode-by : (a : Alphabet) (t : List ℕ) → By (digitStages a t) (decode a t)
+unfolding decode digitStages fromDigits
+decode-by a t =
+    rw (below-is-every a t)
+    (step-every badCharacter _ _
+    (step-once (ltb (spareCount (a .bits) (length (map (digitIn a) t))) (a .bits)) badCount _ _
+    (step-once (eqb (value (a .bits) (map (digitIn a) t) % 2 ^ spareCount (a .bits) (length (map (digitIn a) t))) 0) spareBits _ _ (done _)))
+    (isDigit a) t)
+
+run-by : (a : Alphabet) (most : ℕ) (cs : List ℕ) → By (runStages a most cs) (decodeRun a most cs)
+unfolding runStages decodeRun
+run-by a most cs = step-once (ltb 0 (length cs)) emptyText _ _ (step-once (leb (length cs) most) longRun _ _ (decode-by a cs))
+
+payload-by : (t : List ℕ) → By (textStages t) (payload t)
+unfolding textStages payload
+payload-by t = step-once (leb (length t) 1024) longText _ _ (run-by base32 80 (cleaned t))
+
+-- ---- the doors
+
+pub door-by : (t : List ℕ) → By (doorStages t) (meaningOfText t)
+unfolding doorStages meaningOfText codeOf
+door-by t =
+    subst (By (doorStages t)) (sym (bind-assoc (payload t) readItems meaningOfItems))
+    (behind (textStages t) (payload t) _ _ (payload-by t)
+    (λ bs e. behind (itemStage bs ∷ []) (readItems bs) meaningOfItems meaningStages (items-by bs (payload-below t bs e))
+    (λ is f. meaning-by is (some-items bs is f))))
+
+pub intake-by : (t : List ℕ) (area : ℕ) → By (intakeStages t area) (intake t area)
+unfolding intakeStages intake
+intake-by t area = step-once (leb 73 area) areaTooShort _ _ (made-of (doorStages t) (meaningOfText t) textOf (door-by t))
+
+pub strict-by : (t : List ℕ) → By (strictStages t) (strict t)
+unfolding strictStages strict
+strict-by t = behind (doorStages t) (meaningOfText t) _ _ (door-by t) (λ m e. step-once (sameText (textOf m) t) otherText _ [] (done m))
+
+-- ---- base32
+
+pub read-by : (t : List ℕ) (area : ℕ) → By (readStages base32 t area) (readBase32 t area)
+unfolding readStages
+read-by t area = into-by (decode base32 t) area _ (decode-by base32 t)
 
 pub write-by : (bs : List ℕ) (area : ℕ) → By (writeStages base32 bs area) (writeBase32 bs area)
 unfolding writeStages
-write-by bs area = step-once (leb (length (encode base32 bs)) area) areaTooShort (accept (encode base32 bs)) [] (done (encode base32 bs))
+write-by bs area = into-by (accept (encode base32 bs)) area [] (done (encode base32 bs))
 
-pub header-by : (bs : List ℕ) → By (headerStages bs) (readHeader bs)
-unfolding headerStages
-header-by bs =
-    record {
-      accepted = λ g e. ((λ j. (rw e, tt)), tt);
-      refused = λ q e. (0, inl ((λ j l. absurd (not-suc-le-zero l)), inl (sym (header-only bs q e), rw e)));
-    }
-
--- 17 for any of the four numbers
-raw-is : (h : Header) → rawHeader h ≡ (every (λ n. leb n 4679) (h .mainType ∷ h .subtype ∷ h .version ∷ h .lengthNo ∷ []) otherwise numberTooLarge >> accept (headerBytes h))
-unfolding rawHeader writeVarnibble headerBytes every
-raw-is h = go (leb (h .mainType) 4679) (leb (h .subtype) 4679) (leb (h .version) 4679) (leb (h .lengthNo) 4679) (varnibble (h .mainType)) (varnibble (h .subtype)) (varnibble (h .version)) (varnibble (h .lengthNo))
-  where
-    go : (a b c d : Bool) (w x y z : List ℕ)
-        → ((a otherwise numberTooLarge >> accept w) >>= λ w. ((b otherwise numberTooLarge >> accept x) >>= λ x. ((c otherwise numberTooLarge >> accept y) >>= λ y. ((d otherwise numberTooLarge >> accept z) >>= λ z. accept (packed (w ++ x ++ y ++ z))))))
-        ≡ (a && (b && (c && (d && true))) otherwise numberTooLarge >> accept (packed (w ++ x ++ y ++ z)))
-    go true true true true w x y z = refl
-    go true true true false w x y z = refl
-    go true true false d w x y z = refl
-    go true false c d w x y z = refl
-    go false b c d w x y z = refl
-
-pub header-write-by : (h : Header) (area : ℕ) → By (writeHeaderStages h area) (writeHeader h area)
-unfolding writeHeaderStages
-header-write-by h area =
-    let p : ℕ → Bool = λ n. leb n 4679 in
-    let ns : List ℕ = h .mainType ∷ h .subtype ∷ h .version ∷ h .lengthNo ∷ [] in
-    into-by (rawHeader h) area (rule numberTooLarge (λ j. headHolds p (drop j ns)) ∷ [])
-    (subst (By (rule numberTooLarge (λ j. headHolds p (drop j ns)) ∷ [])) (sym (raw-is h))
-    (step-every p ns numberTooLarge (accept (headerBytes h)) [] (done (headerBytes h))))
-
--- ---- one unit
-
--- three tests at one place are the same three tests one after the other
-in-turn : (a b c : Bool) (q r s : Refusal) (n : ℕ)
-    → BrokenAt (record { number = q .number; holds = λ _. a } ∷ record { number = r .number; holds = λ _. b } ∷ record { number = s .number; holds = λ _. c } ∷ []) n 0
-    → First (once q a ∷ once r b ∷ once s c ∷ []) n 0
-in-turn a b c q r s n (inl x) = inl ((λ j l. absurd (not-suc-le-zero l)), inl x)
-in-turn a b c q r s n (inr (h, inl x)) = inr ((λ j. (h, tt)), inl ((λ j l. absurd (not-suc-le-zero l)), inl x))
-in-turn a b c q r s n (inr (h, inr (g, inl x))) = inr ((λ j. (h, tt)), inr ((λ j. (g, tt)), inl ((λ j l. absurd (not-suc-le-zero l)), inl x)))
-in-turn a b c q r s n (inr (h, inr (g, inr (f, x)))) = absurd x
-
-pub unit-by : (bs : List ℕ) → By (unitStages bs) (readItem bs)
-unfolding unitStages itemTest
-unit-by bs =
-    record {
-      accepted = λ g e. let h : HoldAt (itemStage bs) 0 = item-holds bs g e in ((λ j. (h .0, tt)), ((λ j. (h .1 .0, tt)), ((λ j. (h .1 .1 .0, tt)), tt)));
-      refused = λ q e. (0, in-turn (headerReads bs) (headerPermitted bs) (bodyThere bs) badHeader notPermitted shortBody (q .number) (item-broken bs q e));
-    }
-
-pub one-by : (bs : List ℕ) → By (oneStages bs) (readOne bs)
-unfolding oneStages readOne
-one-by bs =
-    after-part (unitStages bs) _ (readItem bs) _ (unit-by bs)
-    (λ g e. rw e (step-once (leb (length bs) (g .used)) bytesLeftOver (accept (g .result)) [] (done (g .result))))
-
--- two tests with one refusal are one test
-one-test : {A B : Type 0} (a : Bool) (r : Refusal) (m : A) (b : A → Bool) (x : A → Answer B)
-    → ((a otherwise r >> accept m) >>= λ k. (b k otherwise r >> x k)) ≡ (a && b m otherwise r >> x m)
-one-test true r m b x = refl
-one-test false r m b x = refl
+-- ---- the unit writer
 
 unit-bytes-by : (h : Header) (body : List ℕ)
     → By
@@ -98,14 +90,48 @@ unit-bytes-by : (h : Header) (body : List ℕ)
 unfolding unitBytes mainTypeOf
 unit-bytes-by h body =
     subst (By _)
-    (sym (one-test (ltb (h .mainType) 7) notPermitted (typeOf (h .mainType)) (λ m. isUnit m && permits m (h .subtype) (h .version) (h .lengthNo)) _))
+    (sym (type-test (ltb (h .mainType) 7) notPermitted (typeOf (h .mainType))
+    (λ m. isUnit m && permits m (h .subtype) (h .version) (h .lengthNo)) _))
     (step-once _ notPermitted _ _ (step-once _ shortBody _ [] (done _)))
 
 pub unit-write-by : (h : Header) (body : List ℕ) (area : ℕ) → By (writeUnitStages h body area) (writeUnit h body area)
 unfolding writeUnitStages
 unit-write-by h body area = into-by (unitBytes h body) area _ (unit-bytes-by h body)
 
--- ---- one composite
+-- ---- the header writer: 17 for any of the four numbers
+
+number-test : (n : ℕ) → Tested (leb n 4679) numberTooLarge (varnibble n) (writeVarnibble n)
+unfolding writeVarnibble
+number-test n = record { is = refl }
+
+numbers-test : (h : Header)
+    → Tested (every (λ n. leb n 4679) (h .mainType ∷ h .subtype ∷ h .version ∷ h .lengthNo ∷ [])) numberTooLarge (headerBytes h) (rawHeader h)
+unfolding rawHeader headerBytes every
+numbers-test h =
+    tests-join (writeVarnibble (h .mainType)) _ (number-test (h .mainType))
+    (tests-join (writeVarnibble (h .subtype)) _ (number-test (h .subtype))
+    (tests-join (writeVarnibble (h .version)) _ (number-test (h .version))
+    (tests-join (writeVarnibble (h .lengthNo)) _ (number-test (h .lengthNo)) (record { is = refl }))))
+
+pub header-write-by : (h : Header) (area : ℕ) → By (writeHeaderStages h area) (writeHeader h area)
+unfolding writeHeaderStages
+header-write-by h area =
+    into-by (rawHeader h) area (_ ∷ [])
+    (subst (By _) (sym (numbers-test h .is))
+    (step-every numberTooLarge (accept (headerBytes h)) [] (done (headerBytes h)) (λ n. leb n 4679)
+    (h .mainType ∷ h .subtype ∷ h .version ∷ h .lengthNo ∷ [])))
+
+-- ---- join and split
+
+all-by : (bs : List ℕ) → Below 256 bs → By (itemStage bs ∷ whereAccepted (readItems bs) joinStages) (joinedBytes bs)
+unfolding joinedBytes
+all-by bs k =
+    behind (itemStage bs ∷ []) (readItems bs) _ joinStages (items-by bs k)
+    (λ is e. made-of (joinStages is) (joinedMeaning is) (λ m. itemBytes (itemOf m)) (joined-by is (some-items bs is e)))
+
+pub join-by : (bs : List ℕ) (area : ℕ) → Below 256 bs → By (joinAllStages bs area) (join bs area)
+unfolding joinAllStages
+join-by bs area k = into-by (joinedBytes bs) area _ (all-by bs k)
 
 not-composite : (m : MainType) (s v l : ℕ) (body : List ℕ)
     → By (once notPermitted (sameType m ISCC) ∷ []) (unitsOf (meaningAs m s v l body) >>= λ is. accept (itemsBytes is))
@@ -122,13 +148,24 @@ pub split-by : (bs : List ℕ) (area : ℕ) → By (splitStages bs area) (split 
 unfolding splitStages splitBytes
 split-by bs area =
     into-by (splitBytes bs) area _
-    (after-part (oneStages bs) _ (readOne bs) (λ i. unitsOf (meaningOf i) >>= λ is. accept (itemsBytes is)) (one-by bs)
-    (λ i e. rw e (not-composite (i .mainType) (i .subtype) (i .version) (i .lengthNo) (i .body))))
+    (behind (oneStages bs) (readOne bs) _ _ (one-by bs) (λ i e. not-composite (i .mainType) (i .subtype) (i .version) (i .lengthNo) (i .body)))
 
--- ---- two units
+-- ---- the distance
 
 pub distance-by : (x y : List ℕ) → By (distanceStages x y) (distance x y)
 unfolding distanceStages distance
 distance-by x y =
-    after-part (oneStages x) _ (readOne x) _ (one-by x)
-    (λ i e. rw e (after-part (oneStages y) _ (readOne y) _ (one-by y) (λ j f. rw f (step-once (comparable i j) noDistance _ [] (done _)))))
+    behind (oneStages x) (readOne x) _ _ (one-by x)
+    (λ i e. behind (oneStages y) (readOne y) _ _ (one-by y) (λ j f. step-once (comparable i j) noDistance _ [] (done _)))
+
+-- ---- the code of a text, and the text of a code
+
+pub read-code-by : (t : List ℕ) (area : ℕ) → By (readCodeStages t area) (readCode t area)
+unfolding readCodeStages readCode codeBytes
+read-code-by t area =
+    step-once (leb 42 area) areaTooShort _ _ (made-of (doorStages t) (meaningOfText t) (λ m. itemBytes (itemOf m)) (door-by t))
+
+pub write-text-by : (bs : List ℕ) (area : ℕ) → By (writeTextStages bs area) (writeText bs area)
+unfolding writeTextStages writeText
+write-text-by bs area =
+    step-once (leb 73 area) areaTooShort _ _ (made-of (oneStages bs) (readOne bs) (λ i. textOf (meaningOf i)) (one-by bs))

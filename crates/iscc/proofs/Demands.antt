@@ -21,25 +21,26 @@ use Rattle.iscc.specs.Header.{Header, rawHeader}
 use Rattle.iscc.specs.Meaning.{Meaning, unit, composite, Permitted}
 use Rattle.iscc.specs.Item.{Item, itemBytes, readItem, readOne, unitBytes, meaningOf, itemOf}
 use Rattle.iscc.specs.Items.{readItems, itemsBytes, unitsOf, joinedBytes, splitBytes}
-use Rattle.iscc.specs.Doors.{meaningOfText, textOf, intake}
+use Rattle.iscc.specs.Doors.{meaningOfText, textOf, codeBytes, readCode, writeText, intake}
 use Rattle.iscc.specs.Distance.{ratioOf}
 use Rattle.iscc.specs.Demands as demands
 use Rattle.iscc.specs.Demands.{Demand1, Demand2, UnitBack}
-use Rattle.iscc.proofs.Answer.{never, accept-inj, passed, answered}
+use Rattle.iscc.proofs.Answer.{never, accept-inj, passed, answered, accepted-value}
 use Rattle.iscc.proofs.ByteDigits.{from-to}
 use Rattle.iscc.proofs.Alphabet.{decode-encode, encode-decode}
 use Rattle.iscc.proofs.Base32.{sound32, bad-count}
 use Rattle.iscc.proofs.Varnibble.{length-varnibble, read-varnibble, varnibble-read}
 use Rattle.iscc.proofs.Header.{read-header, header-read}
-use Rattle.iscc.proofs.Item.{PermittedItem, UnitWritten, read-item, item-read, unit-written}
+use Rattle.iscc.proofs.Item.{PermittedItem, UnitWritten, read-item, item-read, unit-written, item-most}
 use Rattle.iscc.proofs.Meaning.{meaning-back, item-permitted, meant-item, item-back}
 use Rattle.iscc.proofs.Items.{AllPermitted, read-items, items-read}
 use Rattle.iscc.proofs.Split.{splits, one-read, join-makes}
 use Rattle.iscc.proofs.Distance.{bounded, exact-32, exact-64, exact-128, exact-256}
 use Rattle.iscc.proofs.Doors.{meant, short}
-use Rattle.iscc.proofs.Tests.{intake-by, strict-by, read-by, join-by}
-use Rattle.iscc.proofs.CallTests.{write-by, header-by, header-write-by, unit-by, unit-write-by, split-by, distance-by}
 use Rattle.iscc.proofs.Exactly.{exactly}
+use Rattle.iscc.proofs.HeaderTests.{header-by}
+use Rattle.iscc.proofs.ItemTests.{unit-by, one-by}
+use Rattle.iscc.proofs.CallTests.{intake-by, strict-by, read-by, write-by, unit-write-by, header-write-by, join-by, split-by, distance-by, read-code-by, write-text-by}
 
 -- ---- lent areas
 
@@ -64,18 +65,32 @@ kept-into x area = kept (into (length area) x) area (λ out e. fits x out e)
         let p = passed (leb (length (a .0)) (length area)) _ (accept (a .0)) (a .2) in
         subst (λ (o : List ℕ). length o ≤ length area) (accept-inj (p .1)) (leb-true (length (a .0)) (length area) (p .0))
 
+-- a call that tests for `room` bytes whatever is written, and writes no more than that
+kept-room : (room : ℕ) (x : Answer (List ℕ)) (area : List ℕ) → ((out : List ℕ) → x ≡ accept out → length out ≤ room)
+    → Kept (leb room (length area) otherwise areaTooShort >> x) area
+kept-room room x area f =
+    kept (leb room (length area) otherwise areaTooShort >> x) area
+    (λ out e. let p = passed (leb room (length area)) _ x e in omega (arith, f out (p .1), leb-true room (length area) (p .0)))
+
 kept-intake : (t area : List ℕ) → Kept (intake t (length area)) area
 unfolding intake
-kept-intake t area = kept (intake t (length area)) area (λ out e. fits out e)
-  where
-    fits : (out : List ℕ) → intake t (length area) ≡ accept out → length out ≤ length area
-    fits out e =
-        let p = passed (leb 73 (length area)) _ (meaningOfText t >>= λ m. accept (textOf m)) e in
-        let a = answered (meaningOfText t) (λ m. accept (textOf m)) (p .1) in
-        let s : length (textOf (a .0)) ≤ 73 = short (a .0) (meant t (a .0) (a .1)) in
-        let l : 73 ≤ length area = leb-true 73 (length area) (p .0) in
-        let n : length (textOf (a .0)) ≤ length area = omega arith in
-        subst (λ (o : List ℕ). length o ≤ length area) (accept-inj (a .2)) n
+kept-intake t area =
+    kept-room 73 (meaningOfText t >>= λ m. accept (textOf m)) area
+    (accepted-value (meaningOfText t) textOf (λ out. length out ≤ 73) (λ m e. short m (meant t m e)))
+
+kept-code : (t area : List ℕ) → Kept (readCode t (length area)) area
+unfolding readCode codeBytes
+kept-code t area =
+    kept-room 42 (meaningOfText t >>= λ m. accept (itemBytes (itemOf m))) area
+    (accepted-value (meaningOfText t) (λ m. itemBytes (itemOf m)) (λ out. length out ≤ 42)
+    (λ m e. item-most (itemOf m) (item-permitted m (meant t m e))))
+
+kept-text : (bs area : List ℕ) → Below 256 bs → Kept (writeText bs (length area)) area
+unfolding writeText
+kept-text bs area k =
+    kept-room 73 (readOne bs >>= λ i. accept (textOf (meaningOf i))) area
+    (accepted-value (readOne bs) (λ i. textOf (meaningOf i)) (λ out. length out ≤ 73)
+    (λ i e. short (meaningOf i) (meant-item i (one-read bs i k e .0))))
 
 -- ---- demand 1
 
@@ -94,10 +109,13 @@ demand1 =
       headerReadTests = λ bs. exactly _ _ (header-by bs);
       headerWriteTests = λ h area. exactly _ _ (header-write-by h area);
       unitReadTests = λ bs. exactly _ _ (unit-by bs);
+      oneTests = λ bs. exactly _ _ (one-by bs);
       unitWriteTests = λ h body area. exactly _ _ (unit-write-by h body area);
       joinTests = λ bs area b. exactly _ _ (join-by bs area b);
       splitTests = λ bs area. exactly _ _ (split-by bs area);
       distanceTests = λ x y. exactly _ _ (distance-by x y);
+      readCodeTests = λ t area. exactly _ _ (read-code-by t area);
+      writeTextTests = λ bs area. exactly _ _ (write-text-by bs area);
       countOver = bad-count;
       intakeArea = kept-intake;
       base32ReadArea = λ t area. kept-into (decode base32 t) area;
@@ -106,6 +124,8 @@ demand1 =
       unitWriteArea = λ h body area. kept-into (unitBytes h body) area;
       joinArea = λ bs area. kept-into (joinedBytes bs) area;
       splitArea = λ bs area. kept-into (splitBytes bs) area;
+      readCodeArea = kept-code;
+      writeTextArea = kept-text;
     }
 
 -- ---- demand 2

@@ -1,4 +1,4 @@
--- The first broken rule is one rule: so an answer that is as its tests say is so exactly. Assumes nothing.
+-- The first broken rule is one rule: so an answer that is as its tests say is so exactly.
 use Prim.Native.Nat.{ℕ, _<_}
 use mathlib.Core.Path.{_≡_, refl, sym, _∙_, subst}
 use mathlib.Core.Logic.{inl, inr}
@@ -7,10 +7,10 @@ use native.Mathlib.Decide.{ℕ-discrete}
 use native.Mathlib.Omega.{arith}
 use native.Mathlib.Decide.{decLt}
 use Rattle.iscc.specs.Answer.{Answer, accept, refuse}
-use Rattle.iscc.specs.Tests.{Rule, HoldAt, BrokenAt, First, AllHold, Exactly}
+use Rattle.iscc.specs.Exactly.{Rule, HoldAt, BrokenAt, First, AllHold, Exactly}
 use Rattle.iscc.proofs.Booleans.{true-false}
 use Rattle.iscc.proofs.Answer.{never}
-use Rattle.iscc.proofs.Tests.{By}
+use Rattle.iscc.proofs.Steps.{By}
 
 broken-one : (rs : List Rule) (k n m : ℕ) → BrokenAt rs n k → BrokenAt rs m k → n ≡ m
 broken-one [] k n m x y = absurd x

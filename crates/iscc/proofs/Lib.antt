@@ -21,9 +21,14 @@ pub mod Area
 pub mod Demand3
 pub mod Doors
 pub mod Lists
-pub mod Tests
-pub mod CallTests
+pub mod Steps
+pub mod Stages
 pub mod Exactly
+pub mod FirstBroken
+pub mod HeaderTests
+pub mod ItemTests
+pub mod ListTests
+pub mod CallTests
 pub mod Demands
 pub mod Forms
 pub mod Labels

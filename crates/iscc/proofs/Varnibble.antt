@@ -1,21 +1,21 @@
 -- The laws of varnibbles. Assumes nothing.
 use Prim.Native.Nat.{ℕ, suc, _+_, _-_, _*_, _%_, _^_, _≤_, _<_}
-use mathlib.Core.Path.{_≡_, _∙_, ap, subst}
-use mathlib.Core.Bool.{true}
+use mathlib.Core.Path.{_≡_, refl, _∙_, ap, subst}
+use mathlib.Core.Bool.{Bool, true, false, cond, _&&_, and-false}
 use mathlib.Core.List.{List, [], _∷_, _++_}
 use native.Mathlib.Nat.{le-of-suc-le-suc, add-zero}
-use native.Mathlib.Decide.{decLt}
+use native.Mathlib.Decide.{decLt, decLe}
 use native.Mathlib.Omega.{arith}
-use lib.ListN.{length, getD, take, drop, length-append, length-drop, drop-of-length-le, List·getD-append}
+use lib.ListN.{length, getD, take, drop, length-append, length-drop, List·getD-append}
 use lib.Seq.{take-at, length-take-le, getD-drop}
-use lib.Dec.{ltb, leb}
+use lib.Dec.{ltb, leb, lit<}
 use borrow.Author.Tests.{lt-ltb, le-ltb, le-leb, lt-leb, ltb-true, leb-true}
-use Rattle.iscc.specs.Answer.{accept, refuse}
+use Rattle.iscc.specs.Answer.{accept, refuse, _>>_, _otherwise_}
 use Rattle.iscc.specs.Refusals.{badHeader}
 use Rattle.iscc.specs.Digits.{digits, value, Below}
 use Rattle.iscc.specs.Varnibble.{firstOf, prefixOf, rowOf, rowBy, varnibble, Parsed, readVarnibble}
 use Rattle.iscc.proofs.Digits.{length-digits, digits-below, value-digits, digits-value, value-lt, below-take}
-use Rattle.iscc.proofs.Answer.{passed, never}
+use Rattle.iscc.proofs.Answer.{passed, never, Tested}
 
 -- the four rows
 pub rows {ℓ} : (P : ℕ → Type ℓ) (n : ℕ) → n ≤ 4679 → (n < 8 → rowOf n ≡ 1 → P n) → (8 ≤ n → n < 72 → rowOf n ≡ 2 → P n)
@@ -71,6 +71,17 @@ by-4 {h} a =
     let c : 8 ≤ h = omega arith in
     let d : 12 ≤ h = omega arith in
     simp (le-ltb h 8 c, le-ltb h 12 d, le-ltb h 14 a)
+
+-- a varnibble has at least one nibble
+pub row-some : (h : ℕ) → 0 < rowBy h
+unfolding rowBy
+row-some h = go (ltb h 8) (ltb h 12) (ltb h 14)
+  where
+    go : (a b c : Bool) → 0 < cond a 1 (cond b 2 (cond c 3 4))
+    go true b c = lit< tt
+    go false true c = lit< tt
+    go false false true = lit< tt
+    go false false false = lit< tt
 
 -- a varnibble by its first nibble's row
 read-row : (k : ℕ) (ds rest : List ℕ) (n : ℕ) → rowBy (getD ds 0 0) ≡ k → getD ds 0 0 < 15 → 0 < k → length ds ≡ k → firstOf k + value 4 ds % 2 ^ (3 * k) ≡ n
@@ -188,27 +199,48 @@ module _ (ns : List ℕ) (at : ℕ) where
   here : getD (drop at ns) 0 0 ≡ getD ns at 0
   here = getD-drop at ns 0 0 ∙ ap (λ (i : ℕ). getD ns i 0) (add-zero at)
 
-  pub read-none : length ns ≤ at → readVarnibble (drop at ns) ≡ refuse badHeader
+  -- its nibbles are there, and its first one means something: the reader's tests, as one
+  abbrev pub isThere : Bool
+  isThere = leb (at + rowBy (getD ns at 0)) (length ns)
+
+  abbrev pub means : Bool
+  means = ltb (getD ns at 0) 15
+
+  abbrev pub varnibbleAt : Parsed ℕ
+  varnibbleAt =
+      let k : ℕ = rowBy (getD ns at 0) in
+      parsed (firstOf k + value 4 (take k (drop at ns)) % 2 ^ (3 * k)) k
+
+  there-is : (k n : ℕ) → 0 < k → (ltb 0 (n - at) && leb k (n - at)) ≡ leb (at + k) n
+  there-is k n h =
+      elim (decLe (at + k) n) [
+        | yes l ↦ rw (le-leb (at + k) n l, lt-ltb 0 (n - at) (omega arith), le-leb k (n - at) (omega arith))
+        | no l ↦ rw (lt-leb (at + k) n (omega arith), lt-leb k (n - at) (omega arith)) (and-false (ltb 0 (n - at)))
+      ]
+
+  pub varnibble-test : Tested (isThere && means) badHeader varnibbleAt (readVarnibble (drop at ns))
   unfolding readVarnibble
-  read-none l = rw (drop-of-length-le ns l)
+  varnibble-test =
+      record {
+        is =
+            rw (here, length-drop at ns)
+            (regroup varnibbleAt (ltb 0 (length ns - at)) means (leb (rowBy (getD ns at 0)) (length ns - at))
+            ∙ ap (λ (b : Bool). b && means otherwise badHeader >> accept varnibbleAt) (there-is (rowBy (getD ns at 0)) (length ns) (row-some (getD ns at 0))));
+      }
+    where
+      regroup : {A : Type 0} (x : A) (a b c : Bool)
+          → (a otherwise badHeader >> (b otherwise badHeader >> (c otherwise badHeader >> accept x))) ≡ ((a && c) && b otherwise badHeader >> accept x)
+      regroup x true true true = refl
+      regroup x true true false = refl
+      regroup x true false true = refl
+      regroup x true false false = refl
+      regroup x false b c = refl
 
-  module _ (l : at < length ns) where
-    some-left : ltb 0 (length (drop at ns)) ≡ true
-    some-left = lt-ltb 0 (length (drop at ns)) (simp length-drop (omega arith))
+  pub read-ones : 15 ≤ getD ns at 0 → readVarnibble (drop at ns) ≡ refuse badHeader
+  read-ones h = varnibble-test .is ∙ rw (le-ltb (getD ns at 0) 15 h, and-false isThere)
 
-    pub read-ones : 15 ≤ getD ns at 0 → readVarnibble (drop at ns) ≡ refuse badHeader
-    unfolding readVarnibble
-    read-ones h = rw (some-left, here, le-ltb (getD ns at 0) 15 h)
+  pub read-cut : length ns < at + rowBy (getD ns at 0) → readVarnibble (drop at ns) ≡ refuse badHeader
+  read-cut h = varnibble-test .is ∙ rw (lt-leb (at + rowBy (getD ns at 0)) (length ns) h)
 
-    pub read-cut : getD ns at 0 < 15 → length ns - at < rowBy (getD ns at 0) → readVarnibble (drop at ns) ≡ refuse badHeader
-    unfolding readVarnibble
-    read-cut h k =
-        let m : length (drop at ns) < rowBy (getD ns at 0) = rw length-drop k in
-        rw (some-left, here, lt-ltb (getD ns at 0) 15 h, lt-leb (rowBy (getD ns at 0)) (length (drop at ns)) m)
-
-    pub read-here : getD ns at 0 < 15 → (k : ℕ) → rowBy (getD ns at 0) ≡ k → k ≤ length ns - at
-        → readVarnibble (drop at ns) ≡ accept (parsed (firstOf k + value 4 (take k (drop at ns)) % 2 ^ (3 * k)) k)
-    unfolding readVarnibble
-    read-here h k r b =
-        let m : k ≤ length (drop at ns) = rw length-drop b in
-        rw (some-left, here, lt-ltb (getD ns at 0) 15 h, r, le-leb k (length (drop at ns)) m)
+  pub read-here : getD ns at 0 < 15 → at + rowBy (getD ns at 0) ≤ length ns → readVarnibble (drop at ns) ≡ accept varnibbleAt
+  read-here h l = varnibble-test .is ∙ rw (lt-ltb (getD ns at 0) 15 h, le-leb (at + rowBy (getD ns at 0)) (length ns) l)

@@ -21,16 +21,17 @@ use Rattle.iscc.specs.Header.{Header, headerBytes, readHeader, writeHead
 use Rattle.iscc.specs.Meaning.{Meaning, composite, Permitted}
 use Rattle.iscc.specs.Item.{Item, headerOf, itemBytes, readItem, readOne, unitBytes, writeUnit, meaningOf, itemOf}
 use Rattle.iscc.specs.Items.{readItems, itemsBytes, unitsOf, joinedBytes, splitBytes, join, split, Reordered}
-use Rattle.iscc.specs.Doors.{scheme, codeOf, meaningOfText, textOf, intake, writtenText, strict}
+use Rattle.iscc.specs.Doors.{scheme, codeOf, meaningOfText, textOf, readCode, writeText, intake, writtenText, strict}
 use Rattle.iscc.specs.Distance.{Distance, distance, ratioOf}
-use Rattle.iscc.specs.Tests.{Exactly, intakeStages, strictStages, readStages, writeStages, headerStages, writeHeaderStages, unitStages, writeUnitStages, joinAllStages, splitStages, distanceStages}
+use Rattle.iscc.specs.Exactly.{Exactly}
+use Rattle.iscc.specs.RefusalOrder.{intakeStages, strictStages, unitStages, headerStages, readStages, writeStages, writeUnitStages, writeHeaderStages, joinAllStages, oneStages, splitStages, distanceStages, readCodeStages, writeTextStages}
 
 -- Demand 1. Every byte string gets an answer from every public call. A refusal bears one number, chosen by a fixed order of
 -- tests, and changes no lent byte.
 pub record Demand1 : Type 1 where
   -- an answer accepts or refuses, and nothing else; every definition of a call is a function of all inputs
   pub answers : {A : Type 0} (x : Answer A) → ((a : A) × (x ≡ accept a)) ⊎ ((q : Refusal) × (x ≡ refuse q))
-  -- each number is given exactly when its rule is the first broken in the order of the call's tests (Tests.antt)
+  -- each number is given exactly when its rule is the first broken in the order of the call's tests (RefusalOrder.antt)
   pub intakeTests : (t : List ℕ) (area : ℕ) → Exactly (intakeStages t area) (intake t area)
   pub strictTests : (t : List ℕ) → Exactly (strictStages t) (strict t)
   pub base32ReadTests : (t : List ℕ) (area : ℕ) → Exactly (readStages base32 t area) (readBase32 t area)
@@ -38,10 +39,13 @@ pub record Demand1 : Type 1 where
   pub headerReadTests : (bs : List ℕ) → Exactly (headerStages bs) (readHeader bs)
   pub headerWriteTests : (h : Header) (area : ℕ) → Exactly (writeHeaderStages h area) (writeHeader h area)
   pub unitReadTests : (bs : List ℕ) → Exactly (unitStages bs) (readItem bs)
+  pub oneTests : (bs : List ℕ) → Exactly (oneStages bs) (readOne bs)
   pub unitWriteTests : (h : Header) (body : List ℕ) (area : ℕ) → Exactly (writeUnitStages h body area) (writeUnit h body area)
   pub joinTests : (bs : List ℕ) (area : ℕ) → Below 256 bs → Exactly (joinAllStages bs area) (join bs area)
   pub splitTests : (bs : List ℕ) (area : ℕ) → Exactly (splitStages bs area) (split bs area)
   pub distanceTests : (x y : List ℕ) → Exactly (distanceStages x y) (distance x y)
+  pub readCodeTests : (t : List ℕ) (area : ℕ) → Exactly (readCodeStages t area) (readCode t area)
+  pub writeTextTests : (bs : List ℕ) (area : ℕ) → Exactly (writeTextStages bs area) (writeText bs area)
   -- 5 in the words of its row: the count of characters leaves 1, 3 or 6 over a multiple of 8
   pub countOver : (k : ℕ) → ltb (spareCount 5 k) 5 ≡ not (eqb (k % 8) 1 || eqb (k % 8) 3 || eqb (k % 8) 6)
   -- a refusal leaves the area as it was, a success the bytes past those written
@@ -52,6 +56,8 @@ pub record Demand1 : Type 1 where
   pub unitWriteArea : (h : Header) (body area : List ℕ) → Kept (writeUnit h body (length area)) area
   pub joinArea : (bs area : List ℕ) → Kept (join bs (length area)) area
   pub splitArea : (bs area : List ℕ) → Kept (split bs (length area)) area
+  pub readCodeArea : (t area : List ℕ) → Kept (readCode t (length area)) area
+  pub writeTextArea : (bs area : List ℕ) → Below 256 bs → Kept (writeText bs (length area)) area
 
 -- a result, and how many bytes or nibbles it took
 abbrev parsed : {A : Type 0} → A → ℕ → Parsed A

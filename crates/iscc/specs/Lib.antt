@@ -15,7 +15,8 @@ pub mod Doors
 pub mod Codes
 pub mod Distance
 pub mod Lines
-pub mod Tests
+pub mod Exactly
+pub mod RefusalOrder
 pub mod Demands
 pub mod Forms
 pub mod Labels

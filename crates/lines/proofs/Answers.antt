@@ -14,14 +14,16 @@ use Rattle.iscc.specs.Forms.{writtenAs}
 use Rattle.iscc.specs.declared.written.Written.{Written}
 use Rattle.iscc.specs.declared.written.Written.the-variants.{Length, Refused}
 use Rattle.iscc.specs.Item.{Item}
+use Rattle.iscc.specs.Items.{readItems}
 use Rattle.iscc.specs.Doors.{payload, codeOf, meaningOfText, textOf, intake}
 use Rattle.iscc.specs.Lines.{decimal, lineAnswer}
-use Rattle.iscc.specs.Tests.{Rule, BrokenAt, First, itemStage, digitStages, runStages, textStages, listStages, meaningStages, doorStages, intakeStages, orNone}
-use Rattle.iscc.proofs.Answer.{passed, answered, accept-inj}
+use Rattle.iscc.specs.Exactly.{Rule, BrokenAt, First, whereAccepted}
+use Rattle.iscc.specs.RefusalOrder.{itemStage, digitStages, runStages, textStages, listStages, meaningStages, doorStages, intakeStages}
+use Rattle.iscc.proofs.Answer.{accepted-value}
 use Rattle.iscc.proofs.Area as area
 use Rattle.iscc.proofs.Area.{one-written, length-written, all-written}
 use Rattle.iscc.proofs.Doors.{meant, short}
-use Rattle.iscc.proofs.Tests.{intake-by}
+use Rattle.iscc.proofs.CallTests.{intake-by}
 use Rattle.lines.specs.Feeding.{answerLine}
 
 -- ---- no number is above 99
@@ -46,6 +48,10 @@ small-append : (ss rs : List (List Rule)) → AllSmall ss → AllSmall rs → Al
 small-append [] rs h g = g
 small-append (s ∷ ss) rs h g = (h .0, small-append ss rs (h .1) g)
 
+small-where : {A : Type 0} (x : Answer A) (f : A → List (List Rule)) → ((a : A) → AllSmall (f a)) → AllSmall (whereAccepted x f)
+small-where (accept a) f h = h a
+small-where (refuse q) f h = tt
+
 text-small : (t : List ℕ) → AllSmall (textStages t)
 unfolding textStages runStages digitStages
 text-small t = ((omega arith, tt), ((omega arith, tt), ((omega arith, tt), ((omega arith, tt), ((omega arith, tt), ((omega arith, tt), tt))))))
@@ -56,13 +62,20 @@ meaning-small [] = tt
 meaning-small (i ∷ []) = tt
 meaning-small (i ∷ j ∷ is) = ((omega arith, tt), ((omega arith, tt), ((omega arith, tt), ((omega arith, tt), ((omega arith, tt), tt)))))
 
+item-small : (bs : List ℕ) → Small (itemStage bs)
+item-small bs = (omega arith, (omega arith, (omega arith, (omega arith, (omega arith, tt)))))
+
+door-small : (t : List ℕ) → AllSmall (doorStages t)
+unfolding doorStages
+door-small t =
+    small-append (textStages t) _ (text-small t)
+    (small-where (payload t) _ (λ bs. (item-small bs, small-where (readItems bs) meaningStages meaning-small)))
+
 pub refusal-small : (t : List ℕ) (area : ℕ) (q : Refusal) → intake t area ≡ refuse q → q .number < 100
-unfolding intakeStages doorStages
+unfolding intakeStages
 refusal-small t area q e =
     let f = intake-by t area .refused q e in
-    first-small (intakeStages t area) (q .number) (f .0)
-    ((omega arith, tt), small-append (textStages t) _ (text-small t) ((omega arith, (omega arith, (omega arith, tt))), meaning-small (orNone (codeOf t))))
-    (f .1)
+    first-small (intakeStages t area) (q .number) (f .0) ((omega arith, tt), door-small t) (f .1)
 
 -- ---- any area of 73 bytes is as good as another
 
@@ -72,9 +85,7 @@ intake-same t area h = rw (le-leb 73 area h)
 
 pub text-short : (t out : List ℕ) → intake t 73 ≡ accept out → length out ≤ 73
 unfolding intake
-text-short t out e =
-    let a = answered (meaningOfText t) (λ m. accept (textOf m)) e in
-    rw (← accept-inj (a .2)) (short (a .0) (meant t (a .0) (a .1)))
+text-short t out e = accepted-value (meaningOfText t) textOf (λ o. length o ≤ 73) (λ m f. short m (meant t m f)) out e
 
 -- ---- a line of more than 1,024 bytes
 
