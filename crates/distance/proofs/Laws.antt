@@ -1,30 +1,26 @@
 -- The distance by the units that were read. Assumes nothing.
 use Prim.Native.Nat.{ℕ, _-_, _≤_}
 use mathlib.Core.Path.{_≡_, refl, sym, _∙_, subst}
-use mathlib.Core.Bool.{Bool, true, false, not, _&&_}
+use mathlib.Core.Bool.{Bool, true, false, not}
 use mathlib.Core.Logic.{inl, inr}
 use mathlib.Core.List.{List}
 use native.Mathlib.Omega.{arith}
-use lib.Dec.{eqb, leb, lit≤}
+use lib.Dec.{lit≤}
 use lib.ListN.{length, take, drop, length-drop}
 use lib.Seq.{take-all}
-use borrow.Author.Tests.{not-true, not-false, leb-true}
+use borrow.Author.Tests.{not-true, not-false}
 use Rattle.iscc.specs.Refusals.{Refusal, noDistance}
 use Rattle.iscc.specs.Answer.{Answer, accept, refuse}
-use Rattle.iscc.specs.Permitted.{number, bodyBytes}
-use Rattle.iscc.specs.Items.{sameType}
-use Rattle.iscc.specs.Item.{Item, readOne}
-use Rattle.iscc.specs.Distance.{ratioOf, comparedBits, comparable, distance, distanceAnswer}
+use Rattle.iscc.specs.Item.{readOne}
+use Rattle.iscc.specs.Distance.{comparable, distance, distanceAnswer}
 use Rattle.iscc.specs.Distance as definition
-use Rattle.iscc.proofs.Answer.{passed, answered, accept-inj}
-use Rattle.iscc.proofs.Booleans.{and-true}
-use Rattle.iscc.proofs.Distance.{apart-most, body-32}
+use Rattle.iscc.proofs.Distance.{bounded}
 use Rattle.iscc.proofs.Demands.{demand2}
 use Rattle.unit.specs.Forms.{oneReadAs}
 use Rattle.unit.specs.declared.reader.Unit.{Unit}
 use Rattle.unit.specs.declared.reader.UnitRead.{UnitRead}
 use Rattle.unit.specs.declared.reader.UnitRead.the-variants as read
-use Rattle.unit.proofs.Sole.{SoleBounds, sole-bounds, OneIs, one-is, one-not}
+use Rattle.unit.proofs.Sole.{OneIs, one-is, one-not}
 use Rattle.distance.specs.declared.answer.Measured.{Measured}
 use Rattle.distance.specs.Forms.{measuredAs, bodyDistance, refusedAs, Holds, comparableAs, Exact}
 
@@ -84,28 +80,12 @@ first-refused a b r q m e f g = g ∙ rw (one-not a q (sym e ∙ f))
 
 -- ---- what holds of every answer
 
-within : (a b : List ℕ) (r : definition.Distance) → distance a b ≡ accept r → (r .d ≤ r .n) × (r .n ≤ 256) × (r .ratio ≡ ratioOf (r .d) (r .n))
-unfolding distance comparable comparedBits
-within a b r e =
-    let x = answered (readOne a) _ e in
-    let y = answered (readOne b) _ (x .2) in
-    let p = passed (comparable (x .0) (y .0)) _ _ (y .2) in
-    let i : Item = x .0 in
-    let j : Item = y .0 in
-    let t = and-true (sameType (i .mainType) (j .mainType) && leb (number (i .mainType)) 3) (eqb (i .subtype) (j .subtype)) (p .0) in
-    let n : number (i .mainType) ≤ 3 = leb-true (number (i .mainType)) 3 (and-true (sameType (i .mainType) (j .mainType)) (leb (number (i .mainType)) 3) (t .0) .1) in
-    let g : SoleBounds a i = sole-bounds a i (x .1) in
-    let l : bodyBytes (i .mainType) (i .subtype) (i .lengthNo) ≤ 32 = body-32 (i .mainType) (i .subtype) (i .version) (i .lengthNo) n (g .permitted) in
-    let s : length (i .body) ≡ bodyBytes (i .mainType) (i .subtype) (i .lengthNo) = g .size in
-    subst (λ (r : definition.Distance). (r .d ≤ r .n) × (r .n ≤ 256) × (r .ratio ≡ ratioOf (r .d) (r .n))) (accept-inj (p .1))
-    (apart-most (i .body) (j .body), omega arith, refl)
-
 pub bounds : (a b : List ℕ) (m : Measured) → m ≡ measuredAs (distance a b) → (m .distance .d ≤ m .distance .n) × (m .distance .n ≤ 256)
 unfolding measuredAs distanceAnswer
 bounds a b m e = subst (λ (k : Measured). (k .distance .d ≤ k .distance .n) × (k .distance .n ≤ 256)) (sym e) (go (distance a b) refl)
   where
     go : (x : Answer definition.Distance) → distance a b ≡ x → (measuredAs x .distance .d ≤ measuredAs x .distance .n) × (measuredAs x .distance .n ≤ 256)
-    go (accept r) f = let w = within a b r f in (w .0, w .1)
+    go (accept r) f = let w = bounded a b r f in (w .apart, w .most)
     go (refuse q) f = (lit≤ tt, lit≤ tt)
 
 pub exact : (a b : List ℕ) (m : Measured) → m ≡ measuredAs (distance a b) → Exact (m .distance)
@@ -113,7 +93,7 @@ unfolding measuredAs distanceAnswer
 exact a b m e = subst (λ (k : Measured). Exact (k .distance)) (sym e) (go (distance a b) refl)
   where
     go : (x : Answer definition.Distance) → distance a b ≡ x → Exact (measuredAs x .distance)
-    go (accept r) f n = let w = within a b r f in rw (w .2) (demand2 .distanceExact (r .n) n (r .d) (w .0))
+    go (accept r) f n = let w = bounded a b r f in rw (w .ratio) (demand2 .distanceExact (r .n) n (r .d) (w .apart))
     go (refuse q) f (inl n) = absurd (omega (arith, n))
     go (refuse q) f (inr (inl n)) = absurd (omega (arith, n))
     go (refuse q) f (inr (inr (inl n))) = absurd (omega (arith, n))

@@ -202,6 +202,6 @@ demand2 =
       splitOrder = split-order;
       splitJoin = split-join;
       digitsBack = λ v p m bs b. from-to v p m bs b;
-      distanceBounds = λ x y r b e. let w = bounded x y r b e in (w .apart, w .most);
+      distanceBounds = λ x y r e. let w = bounded x y r e in (w .apart, w .most);
       distanceExact = exact;
     }

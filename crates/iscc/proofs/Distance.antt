@@ -14,14 +14,12 @@ use mathlib.Core.Bool.{_&&_}
 use native.Mathlib.Nat.{le-trans, le-of-eq}
 use borrow.Author.Tests.{leb-true}
 use Rattle.iscc.specs.Answer.{accept}
-use Rattle.iscc.specs.Digits.{Below}
 use Rattle.iscc.specs.Permitted.{MainType, META, SEMANTIC, CONTENT, DATA, INSTANCE, ISCC, ID, number, permits, bodyBytes}
-use Rattle.iscc.specs.Item.{readOne}
+use Rattle.iscc.specs.Item.{Item, readItem, readOne}
 use Rattle.iscc.specs.Items.{sameType}
 use Rattle.iscc.proofs.Answer.{passed, answered, accept-inj}
 use Rattle.iscc.proofs.Permitted.{Small, small}
-use Rattle.iscc.proofs.Item.{PermittedItem}
-use Rattle.iscc.proofs.Split.{one-read}
+use Rattle.iscc.proofs.Item.{behind-header}
 use Rattle.iscc.specs.Distance.{Distance, bitsOf, differingPlaces, differingBits, comparedBits, ratioOf, comparable, distance}
 use Rattle.iscc.proofs.Booleans.{and-true}
 use Rattle.iscc.proofs.Digits.{length-digits}
@@ -88,19 +86,32 @@ body-32 INSTANCE s v l n p = absurd (omega (arith, n))
 body-32 ISCC s v l n p = absurd (omega (arith, n))
 body-32 ID s v l n p = absurd (omega (arith, n))
 
+-- an item that was read has a permitted header, and a body as long as the table says
+record Fits (i : Item) : Type 0 where
+  header : permits (i .mainType) (i .subtype) (i .version) (i .lengthNo) ≡ true
+  size : length (i .body) ≡ bodyBytes (i .mainType) (i .subtype) (i .lengthNo)
+
+one-fits : (bs : List ℕ) (i : Item) → readOne bs ≡ accept i → Fits i
+unfolding readOne
+one-fits bs i e =
+    let a = answered (readItem bs) _ e in
+    let p = passed (leb (length bs) (a .0 .used)) _ (accept (a .0 .result)) (a .2) in
+    subst Fits (accept-inj (p .1)) (behind-header bs (λ g. Fits (g .result)) (λ h m b. record { header = b .permitted; size = b .sized }) (a .0) (a .1))
+
 pub record Bounded (r : Distance) : Type 0 where
   pub apart : r .d ≤ r .n
   pub most : r .n ≤ 256
+  pub ratio : r .ratio ≡ ratioOf (r .d) (r .n)
 
-pub bounded : (x y : List ℕ) (r : Distance) → Below 256 x → distance x y ≡ accept r → Bounded r
+pub bounded : (x y : List ℕ) (r : Distance) → distance x y ≡ accept r → Bounded r
 unfolding distance comparable comparedBits
-bounded x y r k e =
+bounded x y r e =
     let a = answered (readOne x) _ e in
     let b = answered (readOne y) _ (a .2) in
     let p = passed (comparable (a .0) (b .0)) _ _ (b .2) in
     let q = and-true (sameType (a .0 .mainType) (b .0 .mainType) && leb (number (a .0 .mainType)) 3) (eqb (a .0 .subtype) (b .0 .subtype)) (p .0) in
     let t = and-true (sameType (a .0 .mainType) (b .0 .mainType)) (leb (number (a .0 .mainType)) 3) (q .0) in
-    let i : PermittedItem (a .0) = one-read x (a .0) k (a .1) .0 in
+    let i : Fits (a .0) = one-fits x (a .0) (a .1) in
     let l : length (a .0 .body) ≤ 32 =
-    le-trans (le-of-eq (i .body .0)) (body-32 (a .0 .mainType) (a .0 .subtype) (a .0 .version) (a .0 .lengthNo) (leb-true (number (a .0 .mainType)) 3 (t .1)) (i .header)) in
-    subst Bounded (accept-inj (p .1)) (record { apart = apart-most (a .0 .body) (b .0 .body); most = omega arith })
+    le-trans (le-of-eq (i .size)) (body-32 (a .0 .mainType) (a .0 .subtype) (a .0 .version) (a .0 .lengthNo) (leb-true (number (a .0 .mainType)) 3 (t .1)) (i .header)) in
+    subst Bounded (accept-inj (p .1)) (record { apart = apart-most (a .0 .body) (b .0 .body); most = omega arith; ratio = refl })

@@ -116,7 +116,7 @@ pub record Demand2 : Type 1 where
   -- digits, once over the bits per digit
   pub digitsBack : (v : ℕ) → 0 < v → v ≤ 8 → (bs : List ℕ) → Below 256 bs → fromDigits v (toDigits v bs) ≡ accept bs
   -- the distance: d is at most n, n at most 256, and for these n the float product of the ratio and n is d as a float
-  pub distanceBounds : (x y : List ℕ) (r : Distance) → Below 256 x → distance x y ≡ accept r → (r .d ≤ r .n) × (r .n ≤ 256)
+  pub distanceBounds : (x y : List ℕ) (r : Distance) → distance x y ≡ accept r → (r .d ≤ r .n) × (r .n ≤ 256)
   pub distanceExact : (n : ℕ) → (n ≡ 32) ⊎ (n ≡ 64) ⊎ (n ≡ 128) ⊎ (n ≡ 256) → (d : ℕ) → d ≤ n
       → eq (mul binary32 (ratioOf d n) (ofInt binary32 (pos n))) (ofInt binary32 (pos d)) ≡ true
 
