@@ -11,6 +11,7 @@ use lib.Seq.{take-all, drop-cons, drop-drop, getD-take, getD-drop}
 use lib.Dec.{eqb}
 use borrow.Author.Tests.{eq-eqb, ne-eqb}
 use Rattle.iscc.specs.Doors.{isBlank, trimStart, keep, trimEnd, schemeLength, dropHyphens, trimmed, behindScheme, cleaned}
+use Rattle.iscc.proofs.Parts.{drop-take}
 use Rattle.door.specs.Places.{blanksIn, start, spanOf, placeIn, placeOf}
 use Rattle.door.specs.Runs.{runAs}
 use Rattle.door.specs.declared.run.Run.{Run}
@@ -39,16 +40,6 @@ trimEnd-is (c ∷ cs) = go (trimEnd cs) (trimEnd-is cs)
     go : (w : List ℕ) → w ≡ take (length w) cs → keep c w ≡ take (length (keep c w)) (c ∷ cs)
     go [] e = one (isBlank c)
     go (d ∷ ds) e = ap (λ (l : List ℕ). c ∷ l) e
-
-take-none : (n : ℕ) → _≡_ {A = List ℕ} (take n []) []
-take-none zero = refl
-take-none (suc n) = refl
-
-drop-take : (k n : ℕ) (l : List ℕ) → drop k (take n l) ≡ take (n - k) (drop k l)
-drop-take zero n l = let e : n - 0 ≡ n = omega arith in rw e
-drop-take (suc k) zero l = let e : 0 - suc k ≡ 0 = omega arith in rw e
-drop-take (suc k) (suc n) [] = sym (take-none (suc n - suc k))
-drop-take (suc k) (suc n) (x ∷ xs) = let e : suc n - suc k ≡ n - k = omega arith in rw e (drop-take k n xs)
 
 trimmed-is : (t : List ℕ) → trimmed t ≡ take (length (trimmed t)) (drop (blanksIn t) t)
 unfolding trimmed

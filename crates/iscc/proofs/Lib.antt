@@ -21,6 +21,7 @@ pub mod Area
 pub mod Demand3
 pub mod Doors
 pub mod Lists
+pub mod Parts
 pub mod Steps
 pub mod Stages
 pub mod Exactly
