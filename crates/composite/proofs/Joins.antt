@@ -1,22 +1,22 @@
 -- What a list's verdict says of the bytes that are written. Assumes nothing.
-use Prim.Native.Nat.{ℕ, zero, suc, _≤_, _<_}
+use Prim.Native.Nat.{ℕ, _≤_, _<_}
 use mathlib.Core.Path.{_≡_, refl, sym, _∙_, ap, subst⁻¹}
 use mathlib.Core.Bool.{Bool, true, false, cond}
 use mathlib.Core.List.{List, [], _∷_}
+use native.Mathlib.Nat.{not-suc-le-zero}
 use native.Mathlib.Omega.{arith}
-use lib.ListN.{length, drop}
-use lib.Dec.{eqb, leb}
+use lib.ListN.{length}
+use lib.Dec.{eqb}
 use Rattle.iscc.specs.Refusals.{Refusal, notJoinable, lacksDataOrInstance}
-use Rattle.iscc.specs.Answer.{Answer, accept, refuse, _>>=_, _>>_, _otherwise_, into, areaAfter}
+use Rattle.iscc.specs.Answer.{Answer, accept, refuse, _>>=_, _>>_, _otherwise_}
 use Rattle.iscc.specs.Digits.{Below}
 use Rattle.iscc.specs.Meaning.{Meaning}
-use Rattle.iscc.specs.Varnibble.{Parsed}
-use Rattle.iscc.specs.Item.{Item, readItem, itemBytes, itemOf}
+use Rattle.iscc.specs.Item.{Item, itemBytes, itemOf}
 use Rattle.iscc.specs.Lists.{firstNot}
 use Rattle.iscc.specs.Permitted.{META, SEMANTIC, CONTENT}
-use Rattle.iscc.specs.Items.{bodyIn, subtypeOf, readUpTo, readItems, joinable, compositeFrom, joinedMeaning, joinedBytes}
+use Rattle.iscc.specs.Items.{bodyIn, subtypeOf, readItems, joinable, compositeFrom, joinedMeaning, joinedBytes}
 use Rattle.iscc.specs.declared.written.Written.the-variants as written
-use Rattle.iscc.proofs.Answer.{answered}
+use Rattle.iscc.proofs.ItemTests.{some-items}
 use Rattle.iscc.proofs.Items.{items-read, CompositeParts, compositeFrom-parts, compositeFrom-permitted}
 use Rattle.iscc.proofs.Split.{joined-two}
 use Rattle.units.specs.declared.summary.Summary.{Summary}
@@ -97,22 +97,6 @@ refusal-told : (k : ℕ) (x : Answer (List Item)) {a : Reading} (q : Refusal) (j
 refusal-told k (accept is) q j e f = let z : _≡_ {A = ℕ} 0 1 = cc in absurd (omega arith)
 refusal-told k (refuse p) q j e f = let s : p ≡ q = cc in let t : k ≡ j = cc in (ap refuse s, t)
 
--- no list is empty
-never-none : (n : ℕ) (bs : List ℕ) → readUpTo n bs ≡ accept [] → ⊥
-unfolding readUpTo
-never-none zero bs e = let z : _≡_ {A = ℕ} 0 1 = cc in omega arith
-never-none (suc n) bs e =
-    let r = answered (readItem bs) _ e in
-    go (r .0) (leb (length bs) (r .0 .used)) (r .2)
-  where
-    go : (g : Parsed Item) (b : Bool) → cond b (accept (g .result ∷ [])) (readUpTo n (drop (g .used) bs) >>= λ is. accept (g .result ∷ is)) ≡ accept [] → ⊥
-    go g true q = let z : _≡_ {A = ℕ} 0 1 = cc in omega arith
-    go g false q =
-        let w = answered (readUpTo n (drop (g .used) bs)) (λ js. accept (g .result ∷ js)) q in
-        let e₂ : accept (g .result ∷ w .0) ≡ accept [] = w .2 in
-        let z : _≡_ {A = ℕ} 0 1 = cc in
-        omega arith
-
 module _ (bs : List ℕ) {a : Reading} (ea : a ≡ readingAs (refusedIndex bs) (readItems bs)) where
   pub listed-of : (l : Summary) → ((is : List Item) → readItems bs ≡ accept is → Summarizes bs is l) → a ≡ reading.Items → Listed bs l
   listed-of l f e = let r = items-told (refusedIndex bs) (readItems bs) ea e in record { items = r .0; read = r .1; summary = f (r .0) (r .1) }
@@ -128,8 +112,7 @@ join-refused bs q e = rw e
 
 -- a list has one item, or more
 pub one-or-more : (bs : List ℕ) (is : List Item) (P : List Item → Type 0) → readItems bs ≡ accept is → ((i : Item) → is ≡ i ∷ [] → P (i ∷ [])) → ((i j : Item) (js : List Item) → is ≡ i ∷ j ∷ js → P (i ∷ j ∷ js)) → P is
-unfolding readItems
-one-or-more bs [] P e f g = absurd (never-none (suc (length bs)) bs e)
+one-or-more bs [] P e f g = absurd (not-suc-le-zero (some-items bs [] e))
 one-or-more bs (i ∷ []) P e f g = f i refl
 one-or-more bs (i ∷ j ∷ js) P e f g = g i j js refl
 
