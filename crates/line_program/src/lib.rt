@@ -1,6 +1,9 @@
 // The line program: lines from standard input, an answer to each on standard output.
+ghost use mathlib.Core.Path.{_≡_};
+ghost use mathlib.Core.Bool.{true};
 ghost use Prim.Native.Nat.{_≤_};
 ghost use lib.ListN.{length};
+ghost use Rattle.lines.specs.Feeding.{begunLine, begunAfter, Keeps};
 use iscc::written::Written;
 use libc::STDIN_FILENO;
 use libc::STDOUT_FILENO;
@@ -14,6 +17,7 @@ struct Next {
 // Answers the lines that end in a piece, and keeps what it has of the next.
 fn answer(line: &mut [u8], held: usize, piece: &[u8]) -> Next
     requires { ⌜ 1024 ≤ length (now line) ⌝ }
+    ensures { λ r. ⌜ (r .more ≡ true → Keeps (now (line .exit)) (r .held) (begunAfter (begunLine (now (line .entry)) held) (now (piece .entry)))) ⌝ }
 {
     let mut space = io::large_buffer();
     let out: &mut [u8] = &mut space;

@@ -12,7 +12,7 @@ use borrow.Author.Tests.{le-leb, lt-leb, leb-true, leb-false}
 use Rattle.iscc.specs.Refusals.{longText}
 use Rattle.iscc.specs.Answer.{refuse}
 use Rattle.iscc.specs.Lines.{lineAnswer}
-use Rattle.lines.specs.Feeding.{answerLine, overlong, begunLine, heldFor, lineFor}
+use Rattle.lines.specs.Feeding.{answerLine, overlong, begunLine, heldFor, lineFor, shortened}
 use Rattle.lines.proofs.Answers.{answer-long}
 
 pub length-overlong : length overlong ≡ 1025
@@ -56,9 +56,6 @@ length-line p line room = go (leb (length p) 1024) refl
     go false b = ap length (line-long p line (leb-false (length p) 1024 b))
 
 -- ---- what is kept of a line, and its answer
-
-unfoldable pub shortened : List ℕ → List ℕ
-shortened p = cond (leb (length p) 1024) p overlong
 
 pub begun-kept : (q line : List ℕ) → begunLine (lineFor q line) (heldFor q) ≡ shortened q
 unfolding begunLine lineFor heldFor shortened

@@ -5,3 +5,4 @@ pub mod Held
 pub mod Fed
 pub mod Lines
 pub mod Pieces
+pub mod Stops

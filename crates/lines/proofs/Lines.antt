@@ -10,8 +10,8 @@ use lib.Dec.{eqb, leb}
 use borrow.Author.Tests.{le-leb, lt-leb, leb-true, leb-false}
 use Rattle.iscc.specs.Doors.{intake}
 use Rattle.iscc.specs.Lines.{linesOf, inFront, lineAnswer, lineAnswers, lineProgram}
-use Rattle.lines.specs.Feeding.{answerLine, overlong, lastAnswer}
-use Rattle.lines.proofs.Held.{length-overlong, shortened, answer-shortened}
+use Rattle.lines.specs.Feeding.{answerLine, overlong, shortened, lastAnswer}
+use Rattle.lines.proofs.Held.{length-overlong, answer-shortened}
 
 -- a line: no LF in it
 abbrev pub NoLF : List ℕ → Type 0

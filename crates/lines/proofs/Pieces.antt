@@ -15,14 +15,14 @@ use Rattle.iscc.specs.declared.written.Written.{Written}
 use Rattle.iscc.specs.declared.written.Written.the-variants.{Length}
 use Rattle.iscc.specs.Answer.{Answer, accept, refuse, _>>_, _otherwise_, areaAfter}
 use Rattle.iscc.specs.Lines.{lineProgram}
-use Rattle.lines.specs.Feeding.{Feeding, answerLine, behind, nothingFed, feeding, begunLine, heldFor, lineFor, roomFor, fedBy, fedAs, lastAnswer, finishing}
+use Rattle.lines.specs.Feeding.{Feeding, answerLine, behind, nothingFed, feeding, begunLine, heldFor, lineFor, shortened, roomFor, fedBy, fedAs, lastAnswer, finishing}
 use Rattle.lines.specs.declared.feed.Fed.{Fed}
 use Rattle.lines.specs.Pieces.{Call, fedIn, taken, outputs, wholly, joined, AnyCut}
 use Rattle.lines.proofs.Answers.{answer-short}
-use Rattle.lines.proofs.Held.{shortened, begun-kept, length-line, begun-none}
+use Rattle.lines.proofs.Held.{begun-kept, length-line, begun-none}
 use Rattle.lines.proofs.Lines.{NoLF, no-LF-more, program-ended, program-last, shortened-twice, shortened-more, same-answers, same-last}
 
-one-more : (u : ℕ) (c : ℕ) (cs : List ℕ) → take (1 + u) (c ∷ cs) ≡ c ∷ take u cs
+pub one-more : (u : ℕ) (c : ℕ) (cs : List ℕ) → take (1 + u) (c ∷ cs) ≡ c ∷ take u cs
 one-more u c cs = let e : 1 + u ≡ suc u = omega arith in rw e
 
 -- ---- one piece behind a line begun, whatever follows

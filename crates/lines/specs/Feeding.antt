@@ -2,6 +2,7 @@
 -- piece adds to the answers, and what the end of input adds.
 -- Assumes nothing.
 use Prim.Native.Nat.{ℕ, _+_, _-_}
+use mathlib.Core.Path.{_≡_}
 use mathlib.Core.Bool.{Bool, not, cond}
 use mathlib.Core.List.{List, [], _∷_, _++_}
 use lib.ListN.{length, take, drop, replicate}
@@ -39,7 +40,33 @@ heldFor p = cond (leb (length p) 1024) (length p) 1025
 unfoldable pub lineFor : List ℕ → List ℕ → List ℕ
 lineFor p line = cond (leb (length p) 1024) (p ++ drop (length p) line) line
 
--- ---- a piece
+-- what is kept of a line: all of it, or that it is too long
+unfoldable pub shortened : List ℕ → List ℕ
+shortened p = cond (leb (length p) 1024) p overlong
+
+-- the area and the count keep this line
+abbrev pub Keeps : List ℕ → ℕ → List ℕ → Type 0
+Keeps line held p = shortened (begunLine line held) ≡ shortened p
+
+-- ---- a piece, byte by byte
+
+-- behind a line begun, p, a byte ends it or makes it longer
+abbrev pub begunNext : List ℕ → ℕ → List ℕ
+begunNext p c = cond (eqb c 10) [] (p ++ (c ∷ []))
+
+abbrev pub answerNext : List ℕ → ℕ → List ℕ
+answerNext p c = cond (eqb c 10) (answerLine p) []
+
+-- the line begun behind a piece, and the answers to the lines that end in it
+unfoldable pub begunAfter : List ℕ → List ℕ → List ℕ
+begunAfter p [] = p
+begunAfter p (c ∷ cs) = begunAfter (begunNext p c) cs
+
+unfoldable pub answersTo : List ℕ → List ℕ → List ℕ
+answersTo p [] = []
+answersTo p (c ∷ cs) = answerNext p c ++ answersTo (begunNext p c) cs
+
+-- ---- a piece, as far as there is room
 
 -- the line begun afterwards, how many bytes of the piece were taken, and what is answered to them
 pub record Feeding : Type 0 where
