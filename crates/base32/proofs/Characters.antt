@@ -18,33 +18,33 @@ use Rattle.iscc.proofs.Digits.{value-snoc}
 use Rattle.iscc.proofs.Table.{upTo, at}
 
 -- 0 from a to b, else 1
-abbrev pub beyondOf : ℕ → ℕ → ℕ → ℕ
-beyondOf c a b = cond (leb a c && leb c b) 0 1
+abbrev pub outsideRange : ℕ → ℕ → ℕ → ℕ
+outsideRange c a b = cond (leb a c && leb c b) 0 1
 
-pub beyond-low : (c a b : ℕ) → c < a → 1 ≡ beyondOf c a b
-beyond-low c a b h = rw (lt-leb a c h)
+pub below-range : (c a b : ℕ) → c < a → 1 ≡ outsideRange c a b
+below-range c a b h = rw (lt-leb a c h)
 
-pub beyond-high : (c a b : ℕ) → b < c → 1 ≡ beyondOf c a b
-beyond-high c a b h = rw (lt-leb c b h, and-false (leb a c))
+pub above-range : (c a b : ℕ) → b < c → 1 ≡ outsideRange c a b
+above-range c a b h = rw (lt-leb c b h, and-false (leb a c))
 
-pub beyond-not : (c a b : ℕ) → a ≤ c → c ≤ b → 0 ≡ beyondOf c a b
-beyond-not c a b h k = rw (le-leb a c h, le-leb c b k)
+pub in-range : (c a b : ℕ) → a ≤ c → c ≤ b → 0 ≡ outsideRange c a b
+in-range c a b h k = rw (le-leb a c h, le-leb c b k)
 
 pub small-product : (a b : ℕ) → a ≤ 1 → b ≤ 1 → a * b ≤ 1
 small-product zero b h k = rw (zero-mul b) (omega arith)
 small-product (suc zero) b h k = rw (one-mul b) k
 small-product (suc (suc a)) b h k = absurd (omega (arith, h))
 
-right : ℕ → Bool
-right c = eqb (beyondOf (bitAnd c 223) 65 90 * beyondOf c 50 55) (cond (ltb (digitIn base32 c) 32) 0 1)
+agrees : ℕ → Bool
+agrees c = eqb (outsideRange (bitAnd c 223) 65 90 * outsideRange c 50 55) (cond (ltb (digitIn base32 c) 32) 0 1)
 
-computed : upTo 256 right ≡ true
-unfolding upTo right upper indexOf digitIn base32
+computed : upTo 256 agrees ≡ true
+unfolding upTo agrees upper indexOf digitIn base32
 computed = refl
 
-pub outside-is : (c : ℕ) → c < 256 → beyondOf (bitAnd c 223) 65 90 * beyondOf c 50 55 ≡ cond (ltb (digitIn base32 c) 32) 0 1
-unfolding right
-outside-is c h = eqb-true (beyondOf (bitAnd c 223) 65 90 * beyondOf c 50 55) (cond (ltb (digitIn base32 c) 32) 0 1) (at 256 right computed c h)
+pub outside-is : (c : ℕ) → c < 256 → outsideRange (bitAnd c 223) 65 90 * outsideRange c 50 55 ≡ cond (ltb (digitIn base32 c) 32) 0 1
+unfolding agrees
+outside-is c h = eqb-true (outsideRange (bitAnd c 223) 65 90 * outsideRange c 50 55) (cond (ltb (digitIn base32 c) 32) 0 1) (at 256 agrees computed c h)
 
 -- no character is outside
 pub all-inside : (t : List ℕ) → allBelow 1 (map (λ c. cond (ltb (digitIn base32 c) 32) 0 1) t) ≡ allBelow 32 (map (digitIn base32) t)

@@ -15,7 +15,7 @@ use borrow.Author.Tests.{lt-ltb, eqb-true}
 use Rattle.iscc.specs.Alphabet.{upper, indexOf, digitIn}
 use Rattle.iscc.specs.Base32.{base32}
 use Rattle.iscc.specs.Digits.{value, Below}
-use Rattle.iscc.proofs.Booleans.{and-true}
+use Rattle.iscc.proofs.Booleans.{both-true}
 use Rattle.iscc.proofs.Digits.{value-lt, value-append, below-take, below-drop}
 use Rattle.iscc.proofs.Table.{upTo, at}
 
@@ -38,17 +38,17 @@ masked v m (x ∷ xs) h b =
 
 -- ---- a digit's byte by the bits of its character
 
-right : ℕ → Bool
-right c = not (ltb (digitIn base32 c) 32) || (eqb (bitAnd c 31 + 8) (digitIn base32 c + c / 64 * 9) && eqb (bitAnd c 64) (c / 64 * 64))
+agrees : ℕ → Bool
+agrees c = not (ltb (digitIn base32 c) 32) || (eqb (bitAnd c 31 + 8) (digitIn base32 c + c / 64 * 9) && eqb (bitAnd c 64) (c / 64 * 64))
 
-computed : upTo 256 right ≡ true
-unfolding upTo right upper indexOf digitIn base32
+computed : upTo 256 agrees ≡ true
+unfolding upTo agrees upper indexOf digitIn base32
 computed = refl
 
 pub by-bits : (c : ℕ) → c < 256 → digitIn base32 c < 32 → (bitAnd c 31 + 8 ≡ digitIn base32 c + c / 64 * 9) × (bitAnd c 64 ≡ c / 64 * 64)
-unfolding right
+unfolding agrees
 by-bits c h d =
-    let p = and-true (eqb (bitAnd c 31 + 8) (digitIn base32 c + c / 64 * 9)) (eqb (bitAnd c 64) (c / 64 * 64)) (rw (lt-ltb (digitIn base32 c) 32 d) at (at 256 right computed c h)) in
+    let p = both-true (eqb (bitAnd c 31 + 8) (digitIn base32 c + c / 64 * 9)) (eqb (bitAnd c 64) (c / 64 * 64)) (rw (lt-ltb (digitIn base32 c) 32 d) at (at 256 agrees computed c h)) in
     (eqb-true (bitAnd c 31 + 8) (digitIn base32 c + c / 64 * 9) (p .0), eqb-true (bitAnd c 64) (c / 64 * 64) (p .1))
 
 -- the same digit as often as in another list

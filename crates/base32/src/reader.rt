@@ -28,7 +28,7 @@ pub fn digit_of(c: u8) -> u8
 }
 
 // 0 for a byte from `first` to `last`, else 1.
-fn beyond(c: u8, first: u8, last: u8) -> u8
+fn outside_range(c: u8, first: u8, last: u8) -> u8
     ensures { λ r. ⌜ (r ≡ cond (leb first c && leb c last) 0 1) × (r ≤ 1) ⌝ }
 {
     if c < first {
@@ -41,10 +41,10 @@ fn beyond(c: u8, first: u8, last: u8) -> u8
 }
 
 // 0 for a character that has a digit, else 1. Without the bit of 32 a small letter is its capital.
-fn outside(c: u8) -> u8
+fn outside_alphabet(c: u8) -> u8
     ensures { λ r. ⌜ r ≡ cond (isDigit base32 c) 0 1 ⌝ }
 {
-    beyond(c & 0xdf, b'A', b'Z') * beyond(c, b'2', b'7')
+    outside_range(c & 0xdf, b'A', b'Z') * outside_range(c, b'2', b'7')
 }
 
 // Whether each character has a digit. It tests the largest answer alone, so that the loop has no branch.
@@ -54,7 +54,7 @@ fn all_digits(text: &[u8]) -> bool
     let mut most = 0;
     let mut i = 0;
     while i < text.len() {
-        let bad = outside(text[i]);
+        let bad = outside_alphabet(text[i]);
         if most < bad {
             most = bad;
         }

@@ -1,10 +1,8 @@
--- The bytes of a composite by value. Assumes nothing.
-use Prim.Native.Nat.{ℕ, zero, suc, _+_, _-_, _*_, _≤_, _<_}
+-- The bytes of a composite by value.
+use Prim.Native.Nat.{ℕ, _+_, _-_, _*_, _≤_, _<_}
 use mathlib.Core.Path.{_≡_, refl, sym, _∙_, ap}
 use mathlib.Core.Bool.{true, false}
-use mathlib.Core.Option.{Option, none, some}
-use mathlib.Core.List.{List, [], _∷_, _++_, append-nil}
-use native.Mathlib.Nat.{le-of-suc-le-suc, not-suc-le-zero}
+use mathlib.Core.List.{List, [], _++_, flatten}
 use native.Mathlib.Omega.{arith}
 use lib.ListN.{length, take, drop, getD, length-append}
 use lib.Dec.{leb}
@@ -12,20 +10,21 @@ use borrow.Author.Tests.{le-leb, lt-leb}
 use Rattle.iscc.specs.Refusals.{areaTooShort}
 use Rattle.iscc.specs.Answer.{accept, into, areaAfter}
 use Rattle.iscc.specs.Header.{Header, headerBytes, writeHeader}
-use Rattle.iscc.specs.Permitted.{setOf, unitCount}
-use Rattle.iscc.specs.Meaning.{composite, isIn, setIn, Eight, Sized, Permitted}
-use Rattle.iscc.specs.Item.{itemBytes, itemOf, bytesIn}
+use Rattle.iscc.specs.Permitted.{Set, setOf, unitCount}
+use Rattle.iscc.specs.Meaning.{composite, Sized, Permitted}
+use Rattle.iscc.specs.Item.{itemBytes, itemOf}
 use Rattle.iscc.specs.Forms.{writtenAs}
 use Rattle.iscc.specs.declared.written.Written.{Written}
 use Rattle.iscc.specs.declared.written.Written.the-variants.{Length, Refused}
+use Rattle.iscc.proofs.Lists.{all-at}
 use Rattle.iscc.proofs.Header.{length-short}
 use Rattle.iscc.proofs.Permitted.{set-small, subtype-small, count-most, set-back}
-use Rattle.unit.proofs.Parts.{over-twice}
+use Rattle.iscc.proofs.Parts.{over-twice}
 use Rattle.unit.proofs.Write.{header-written}
 use Rattle.composite.specs.declared.bodies.Composite.{Composite}
-use Rattle.composite.specs.Bodies.{rows, laid, bodiesIn, compositeAs}
+use Rattle.composite.specs.Bodies.{rows, laid, compositeAs}
 use Rattle.composite.specs.Code.{Sound, codeHeader, codeBytes}
-use Rattle.composite.proofs.Parts.{rows-eight, laid-length}
+use Rattle.composite.proofs.Parts.{rows-eight, row-at, laid-length, laid-flat}
 
 -- ---- the last test of a writer
 
@@ -81,51 +80,21 @@ module _ (c : Composite) (ok : Sound c) where
 
 -- ---- from a meaning
 
-abbrev AllEight : List (List ℕ) → Type 0
-AllEight [] = Unit {0}
-AllEight (x ∷ xs) = (length x ≡ 8) × AllEight xs
+module _ (s v : ℕ) (u : Set) (bodies : List (List ℕ)) (p : Permitted (composite s v u bodies)) where
+  pub sound-of : Sound (compositeAs (composite s v u bodies))
+  unfolding compositeAs
+  sound-of =
+      record {
+        number = set-small u;
+        subtype = p .subtype;
+        bodies = rows-eight (λ i. getD bodies i []) (unitCount u) 5 (λ i h. all-at (Sized 8) bodies i [] (p .sized) (omega (arith, p .count)) .0);
+      }
 
-eight-at : (xs : List (List ℕ)) → AllEight xs → (i : ℕ) → i < length xs → length (getD xs i []) ≡ 8
-eight-at [] a i h = absurd (not-suc-le-zero h)
-eight-at (x ∷ xs) a zero h = a .0
-eight-at (x ∷ xs) a (suc i) h = eight-at xs (a .1) i (le-of-suc-le-suc h)
+  bodies-laid : laid (λ i. getD (rows (λ i. getD bodies i []) (unitCount u) 5) i []) (unitCount u) ≡ flatten bodies
+  bodies-laid =
+      ap (laid (λ i. getD (rows (λ i. getD bodies i []) (unitCount u) 5) i [])) (sym (p .count))
+      ∙ laid-flat _ bodies (λ i h. row-at (λ i. getD bodies i []) (unitCount u) 5 i (omega (arith, p .count)) (omega (arith, p .count, count-most u)))
 
-module _ (s v : ℕ) (da ins : List ℕ) where
-  bodies-eight : (me se co : Option (List ℕ)) → Eight me → Eight se → Eight co → Sized 8 da → Sized 8 ins
-      → (i : ℕ) → i < unitCount (setIn me se co) → length (getD (bodiesIn me se co da ins) i []) ≡ 8
-  bodies-eight (some x) (some y) (some z) a b c d e = eight-at (x ∷ y ∷ z ∷ da ∷ ins ∷ []) (a .0, (b .0, (c .0, (d .0, (e .0, tt)))))
-  bodies-eight (some x) (some y) none a b c d e = eight-at (x ∷ y ∷ da ∷ ins ∷ []) (a .0, (b .0, (d .0, (e .0, tt))))
-  bodies-eight (some x) none (some z) a b c d e = eight-at (x ∷ z ∷ da ∷ ins ∷ []) (a .0, (c .0, (d .0, (e .0, tt))))
-  bodies-eight (some x) none none a b c d e = eight-at (x ∷ da ∷ ins ∷ []) (a .0, (d .0, (e .0, tt)))
-  bodies-eight none (some y) (some z) a b c d e = eight-at (y ∷ z ∷ da ∷ ins ∷ []) (b .0, (c .0, (d .0, (e .0, tt))))
-  bodies-eight none (some y) none a b c d e = eight-at (y ∷ da ∷ ins ∷ []) (b .0, (d .0, (e .0, tt)))
-  bodies-eight none none (some z) a b c d e = eight-at (z ∷ da ∷ ins ∷ []) (c .0, (d .0, (e .0, tt)))
-  bodies-eight none none none a b c d e = eight-at (da ∷ ins ∷ []) (d .0, (e .0, tt))
-
-  abbrev rowsIn : Option (List ℕ) → Option (List ℕ) → Option (List ℕ) → List (List ℕ)
-  rowsIn me se co = rows (λ i. getD (bodiesIn me se co da ins) i []) (unitCount (setIn me se co)) 5
-
-  body-laid : (me se co : Option (List ℕ)) → laid (λ i. getD (rowsIn me se co) i []) (unitCount (setIn me se co)) ≡ bytesIn me ++ bytesIn se ++ bytesIn co ++ da ++ ins
-  unfolding laid rows
-  body-laid (some x) (some y) (some z) = refl
-  body-laid (some x) (some y) none = rw (append-nil (x ++ y))
-  body-laid (some x) none (some z) = rw (append-nil x)
-  body-laid (some x) none none = rw (append-nil (x ++ []), append-nil x)
-  body-laid none (some y) (some z) = refl
-  body-laid none (some y) none = rw (append-nil y)
-  body-laid none none (some z) = refl
-  body-laid none none none = refl
-
-  module _ (me se co : Option (List ℕ)) (p : Permitted (composite s v me se co da ins)) where
-    pub sound-of : Sound (compositeAs (composite s v me se co da ins))
-    unfolding compositeAs
-    sound-of =
-        record {
-          number = set-small (isIn me) (isIn se) (isIn co);
-          subtype = p .subtype;
-          bodies = rows-eight (λ i. getD (bodiesIn me se co da ins) i []) (unitCount (setIn me se co)) 5 (bodies-eight me se co (p .meta) (p .semantic) (p .content) (p .dataBody) (p .instanceBody));
-        }
-
-    pub code-of : codeBytes (compositeAs (composite s v me se co da ins)) ≡ itemBytes (itemOf (composite s v me se co da ins))
-    unfolding compositeAs codeBytes itemBytes itemOf
-    code-of = rw (set-back (isIn me) (isIn se) (isIn co), body-laid me se co, p .version)
+  pub code-of : codeBytes (compositeAs (composite s v u bodies)) ≡ itemBytes (itemOf (composite s v u bodies))
+  unfolding compositeAs codeBytes itemBytes itemOf
+  code-of = rw (set-back u, bodies-laid, p .version)

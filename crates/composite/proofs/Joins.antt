@@ -13,8 +13,8 @@ use Rattle.iscc.specs.Digits.{Below}
 use Rattle.iscc.specs.Meaning.{Meaning}
 use Rattle.iscc.specs.Item.{Item, itemBytes, itemOf}
 use Rattle.iscc.specs.Lists.{firstNot}
-use Rattle.iscc.specs.Permitted.{META, SEMANTIC, CONTENT}
-use Rattle.iscc.specs.Items.{bodyIn, subtypeOf, readItems, joinable, compositeFrom, joinedMeaning, joinedBytes}
+use Rattle.iscc.specs.Permitted.{unitTypes}
+use Rattle.iscc.specs.Items.{setIn, bodiesIn, subtypeOf, readItems, joinable, compositeFrom, joinedMeaning, joinedBytes}
 use Rattle.iscc.specs.declared.written.Written.the-variants as written
 use Rattle.iscc.proofs.ItemTests.{some-items}
 use Rattle.iscc.proofs.Items.{items-read, CompositeParts, compositeFrom-parts, compositeFrom-permitted}
@@ -46,12 +46,12 @@ module _ (bs : List ℕ) (l : Summary) (m : Meaning) (k : Makes bs l m) (c : Com
   pub makes-sound : Sound c
   makes-sound =
       subst⁻¹ Sound (e ∙ ap compositeAs (sym (of .meaning)))
-      (sound-of (subtypeOf is) 0 (of .dataBody) (of .instanceBody) (bodyIn META is) (bodyIn SEMANTIC is) (bodyIn CONTENT is) (permitted-parts bs l m k))
+      (sound-of (subtypeOf is) 0 (setIn is) (bodiesIn (unitTypes (setIn is)) is) (permitted-parts bs l m k))
 
   pub makes-bytes : codeBytes c ≡ itemBytes (itemOf m)
   makes-bytes =
       ap codeBytes (e ∙ ap compositeAs (sym (of .meaning)))
-      ∙ code-of (subtypeOf is) 0 (of .dataBody) (of .instanceBody) (bodyIn META is) (bodyIn SEMANTIC is) (bodyIn CONTENT is) (permitted-parts bs l m k)
+      ∙ code-of (subtypeOf is) 0 (setIn is) (bodiesIn (unitTypes (setIn is)) is) (permitted-parts bs l m k)
       ∙ ap (λ (x : Meaning). itemBytes (itemOf x)) (of .meaning)
 
 -- ---- the verdict

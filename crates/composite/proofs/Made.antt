@@ -1,32 +1,34 @@
--- The composite that a list makes, from the numbers of its summary. Assumes nothing.
-use Prim.Native.Nat.{ℕ, zero, suc, _+_, _≤_, _<_}
-use mathlib.Core.Path.{_≡_, refl, sym, _∙_, ap, subst}
-use mathlib.Core.Bool.{Bool, true, false, cond, not, _||_}
+-- The composite that a list makes, from the numbers of its summary.
+use Prim.Native.Nat.{ℕ, _+_, _≤_, _<_}
+use mathlib.Core.Path.{_≡_, refl, sym, _∙_, ap, subst, subst⁻¹}
+use mathlib.Core.Bool.{Bool, true, false, cond, not, _||_, false≢true}
 use mathlib.Core.Option.{Option, none, some}
 use mathlib.Core.List.{List, [], _∷_, _++_, map}
-use native.Mathlib.Nat.{le-of-suc-le-suc, not-suc-le-zero}
 use native.Mathlib.Omega.{arith}
-use lib.ListN.{length, take, drop, getD, replicate, length-append, length-replicate}
-use lib.Seq.{length-take-le}
+use lib.ListN.{length, take, drop, getD, replicate, length-map, List·getD-append}
+use lib.Seq.{getD-take}
 use lib.Dec.{eqb, lit<}
 use borrow.Author.Tests.{eqb-true, eq-eqb, ne-eqb}
-use Rattle.iscc.specs.Permitted.{META, SEMANTIC, CONTENT, DATA, INSTANCE, ID, Set, setOf, setNumber, unitTypes, unitCount}
+use Rattle.iscc.specs.Lists.{All, every, pairwise}
+use Rattle.iscc.specs.Permitted.{META, SEMANTIC, CONTENT, ID, number, Set, setOf, setNumber, unitTypes, unitCount}
 use Rattle.iscc.specs.Permitted as permitted
-use Rattle.iscc.specs.Meaning.{Meaning, isIn, setIn, Sized, Eight, Permitted, PermittedComposite}
+use Rattle.iscc.specs.Meaning.{Meaning, Sized, Permitted, PermittedComposite}
 use Rattle.iscc.specs.Item.{Item}
-use Rattle.iscc.specs.Lists.{every, pairwise}
-use Rattle.iscc.specs.Items.{sameType, hasSubtype, sharedSubtype, bodyIn, subtypeIn, has, subtypeOf}
+use Rattle.iscc.specs.Items.{hasSubtype, sharedSubtype, bodyIn, subtypeIn, isIn, bytesIn, has, setIn, bodiesIn, subtypeOf}
 use Rattle.iscc.specs.Forms.{mainTypeAs, unitSetAs}
 use Rattle.iscc.specs.declared.main_type.MainType.{MainType}
 use Rattle.iscc.specs.declared.tables.UnitSet.{UnitSet}
-use Rattle.iscc.proofs.Booleans.{and-true}
-use Rattle.iscc.proofs.Permitted.{set-back, count-most}
-use Rattle.iscc.proofs.Items.{sameType-eq, CompositeParts, compositeFrom-parts}
+use Rattle.iscc.proofs.Booleans.{both-true}
+use Rattle.iscc.proofs.Lists.{all-at, map-at}
+use Rattle.iscc.proofs.Permitted.{set-back, count-most, types-count, types-all}
+use Rattle.iscc.proofs.Items.{CompositeParts, compositeFrom-parts}
+use Rattle.iscc.proofs.Split.{Bears, subtype-there}
 use Rattle.units.specs.declared.summary.Summary.{Summary}
 use Rattle.units.specs.Summary.{Placed, firstSubtype, anySubtyped}
 use Rattle.units.proofs.Snoc.{subtyped}
 use Rattle.units.proofs.Added.{place-tells, any-is}
-use Rattle.composite.specs.Bodies.{parts, rows, bodiesIn, compositeAs, Makes, placeIn, setAt, subtypeAt}
+use Rattle.composite.specs.Bodies.{parts, rows, compositeAs, Makes, placeIn, setAt, subtypeAt}
+use Rattle.composite.proofs.Parts.{rows-same}
 
 pub count-is : (u : UnitSet) (n : ℕ) → u ≡ unitSetAs (setOf n) → u .count ≡ unitCount (setOf n)
 unfolding unitSetAs
@@ -34,47 +36,27 @@ count-is u n e = ap (λ (x : UnitSet). x .count) e
 
 -- ---- the subtype
 
--- x has a subtype and goes with every item: then the first unit of a main type with a subtype has x's
-like : (x : Item) (m : permitted.MainType) → (sameType m SEMANTIC || sameType m CONTENT) ≡ true → hasSubtype x ≡ true
-    → (is : List Item) → every (sharedSubtype x) is ≡ true → has m is ≡ true → subtypeIn m is ≡ x .subtype
-unfolding every bodyIn subtypeIn
-like x m hm hx [] e h = let z : _≡_ {A = ℕ} 0 1 = cc in absurd (omega arith)
-like x m hm hx (i ∷ is) e h =
-    let w = and-true (sharedSubtype x i) (every (sharedSubtype x) is) e in
-    go (sameType m (i .mainType)) refl (w .0) (like x m hm hx is (w .1)) h
-  where
-    same : hasSubtype i ≡ true → sharedSubtype x i ≡ true → i .subtype ≡ x .subtype
-    same hi s = sym (eqb-true (x .subtype) (i .subtype) (rw (hx, hi) at s))
+-- items that share their subtype have that of the first
+bears-like : (x : Item) → hasSubtype x ≡ true → (is : List Item) → every (sharedSubtype x) is ≡ true → All (Bears (x .subtype)) is
+unfolding every
+bears-like x hx [] e = tt
+bears-like x hx (i ∷ is) e =
+    let w = both-true (sharedSubtype x i) (every (sharedSubtype x) is) e in
+    ((λ hi. sym (eqb-true (x .subtype) (i .subtype) (rw (hx, hi) at (w .0)))), bears-like x hx is (w .1))
 
-    go : (b : Bool) → sameType m (i .mainType) ≡ b → sharedSubtype x i ≡ true → (has m is ≡ true → subtypeIn m is ≡ x .subtype)
-        → isIn (cond b (some (i .body)) (bodyIn m is)) ≡ true → cond b (i .subtype) (subtypeIn m is) ≡ x .subtype
-    go true q s ih z =
-        let t : m ≡ i .mainType = sameType-eq m (i .mainType) q in
-        same (subst (λ (k : permitted.MainType). (sameType k SEMANTIC || sameType k CONTENT) ≡ true) t hm) s
-    go false q s ih z = ih z
-
-first-in : (m : permitted.MainType) → (sameType m SEMANTIC || sameType m CONTENT) ≡ true
-    → (is : List Item) → pairwise sharedSubtype is ≡ true → has m is ≡ true → subtypeIn m is ≡ firstSubtype is
-unfolding pairwise bodyIn subtypeIn firstSubtype
-first-in m hm [] e h = let z : _≡_ {A = ℕ} 0 1 = cc in absurd (omega arith)
-first-in m hm (i ∷ is) e h =
-    let w = and-true (every (sharedSubtype i) is) (pairwise sharedSubtype is) e in
-    go (sameType m (i .mainType)) (hasSubtype i) refl refl (w .0) (first-in m hm is (w .1)) h
+bears-first : (is : List Item) → pairwise sharedSubtype is ≡ true → All (Bears (firstSubtype is)) is
+unfolding pairwise firstSubtype
+bears-first [] e = tt
+bears-first (i ∷ is) e = let w = both-true (every (sharedSubtype i) is) (pairwise sharedSubtype is) e in go (hasSubtype i) refl (w .0) (bears-first is (w .1))
   where
-    go : (b c : Bool) → sameType m (i .mainType) ≡ b → hasSubtype i ≡ c → every (sharedSubtype i) is ≡ true → (has m is ≡ true → subtypeIn m is ≡ firstSubtype is)
-        → isIn (cond b (some (i .body)) (bodyIn m is)) ≡ true → cond b (i .subtype) (subtypeIn m is) ≡ cond c (i .subtype) (firstSubtype is)
-    go true true q r s ih z = refl
-    go true false q r s ih z =
-        let t : m ≡ i .mainType = sameType-eq m (i .mainType) q in
-        let u : hasSubtype i ≡ true = subst (λ (k : permitted.MainType). (sameType k SEMANTIC || sameType k CONTENT) ≡ true) t hm in
-        let n : _≡_ {A = ℕ} 0 1 = cc in
-        absurd (omega arith)
-    go false true q r s ih z = like i m hm r is s z
-    go false false q r s ih z = ih z
+    go : (b : Bool) → hasSubtype i ≡ b → every (sharedSubtype i) is ≡ true → All (Bears (firstSubtype is)) is → All (Bears (cond b (i .subtype) (firstSubtype is))) (i ∷ is)
+    go true h e r = ((λ _. refl), bears-like i h is e)
+    go false h e r = ((λ z. absurd (false≢true (sym h ∙ z))), r)
 
 subtype-of : (is : List Item) → pairwise sharedSubtype is ≡ true → subtypeOf is ≡ cond (subtyped is) (firstSubtype is) (cond (has META is) 6 5)
 unfolding subtypeOf
-subtype-of is e = go (has SEMANTIC is) (has CONTENT is) (first-in SEMANTIC refl is e) (first-in CONTENT refl is e)
+subtype-of is e =
+    go (has SEMANTIC is) (has CONTENT is) (subtype-there (firstSubtype is) SEMANTIC is refl (bears-first is e)) (subtype-there (firstSubtype is) CONTENT is refl (bears-first is e))
   where
     go : (b c : Bool) → (b ≡ true → subtypeIn SEMANTIC is ≡ firstSubtype is) → (c ≡ true → subtypeIn CONTENT is ≡ firstSubtype is)
         → cond b (subtypeIn SEMANTIC is) (cond c (subtypeIn CONTENT is) (cond (has META is) 6 5)) ≡ cond (b || c) (firstSubtype is) (cond (has META is) 6 5)
@@ -84,55 +66,23 @@ subtype-of is e = go (has SEMANTIC is) (has CONTENT is) (first-in SEMANTIC refl 
 
 -- ---- the bodies
 
--- the body of a unit of eight bytes, at a place
-abbrev At : List ℕ → Option (List ℕ) → ℕ → Type 0
-At bs none at = Unit {0}
-At bs (some body) at = (at + 8 ≤ length bs) × (take 8 (drop at bs) ≡ body)
+-- a body of eight bytes that is there stands at its place
+placed-at : (bs : List ℕ) (o : Option (List ℕ)) (at : ℕ) → isIn o ≡ true → length (bytesIn o) ≡ 8 → Placed bs o at → (at + 8 ≤ length bs) × (take 8 (drop at bs) ≡ bytesIn o)
+placed-at bs none at h e p = absurd (false≢true h)
+placed-at bs (some body) at h e p = (omega (arith, p .1), ap (λ (k : ℕ). take k (drop at bs)) (sym e) ∙ p .2)
 
-place-at : (bs : List ℕ) (o : Option (List ℕ)) (at : ℕ) → Eight o → Placed bs o at → At bs o at
-place-at bs none at e p = tt
-place-at bs (some body) at e p = (omega (arith, p .1, e .0), ap (λ (k : ℕ). take k (drop at bs)) (sym (e .0)) ∙ p .2)
-
-abbrev pub All : (MainType → Type 0) → List MainType → Type 0
-All P [] = Unit {0}
-All P (m ∷ ms) = P m × All P ms
-
-pub all-at : (P : MainType → Type 0) (n : ℕ) (ms : List MainType) (i : ℕ) (d : MainType) → All P (take n ms) → i < n → n ≤ length ms → P (getD ms i d)
-all-at P zero ms i d a h l = absurd (not-suc-le-zero h)
-all-at P (suc n) [] i d a h l = absurd (not-suc-le-zero l)
-all-at P (suc n) (m ∷ ms) zero d a h l = a .0
-all-at P (suc n) (m ∷ ms) (suc i) d a h l = all-at P n ms i d (a .1) (le-of-suc-le-suc h) (le-of-suc-le-suc l)
+-- the table's units are the set's
+pub unit-at : (u : Set) (i : ℕ) → i < unitCount u → getD (unitSetAs u .units) i (record { number = 0 }) ≡ mainTypeAs (getD (unitTypes u) i ID)
+unfolding unitSetAs
+unit-at u i h =
+    let n : length (map mainTypeAs (unitTypes u)) ≡ unitCount u = length-map (unitTypes u) mainTypeAs ∙ types-count u in
+    getD-take 5 (map mainTypeAs (unitTypes u) ++ replicate 5 (mainTypeAs ID)) i _ (omega (arith, count-most u))
+    ∙ List·getD-append (map mainTypeAs (unitTypes u)) (replicate 5 (mainTypeAs ID)) _ i (omega arith)
+    ∙ map-at mainTypeAs (unitTypes u) i ID _ (omega (arith, types-count u))
 
 -- a unit's body is there
 abbrev There : List ℕ → List ℕ → MainType → Type 0
 There bs pl m = (m .number < 7) × (getD pl (m .number) 0 + 8 ≤ length bs)
-
--- by the eight sets
-module _ (bs pl da ins : List ℕ) (d : At bs (some da) (getD pl 3 0)) (i : At bs (some ins) (getD pl 4 0)) where
-  rows-placed : (me se co : Option (List ℕ)) → At bs me (getD pl 0 0) → At bs se (getD pl 1 0) → At bs co (getD pl 2 0)
-      → rows (λ k. take 8 (drop (placeIn pl (unitSetAs (setIn me se co) .units) k) bs)) (unitCount (setIn me se co)) 5
-      ≡ rows (λ k. getD (bodiesIn me se co da ins) k []) (unitCount (setIn me se co)) 5
-  unfolding rows unitSetAs unitTypes
-  rows-placed (some x) (some y) (some z) a b c = rw (a .1, b .1, c .1, d .1, i .1)
-  rows-placed (some x) (some y) none a b c = rw (a .1, b .1, d .1, i .1)
-  rows-placed (some x) none (some z) a b c = rw (a .1, c .1, d .1, i .1)
-  rows-placed (some x) none none a b c = rw (a .1, d .1, i .1)
-  rows-placed none (some y) (some z) a b c = rw (b .1, c .1, d .1, i .1)
-  rows-placed none (some y) none a b c = rw (b .1, d .1, i .1)
-  rows-placed none none (some z) a b c = rw (c .1, d .1, i .1)
-  rows-placed none none none a b c = rw (d .1, i .1)
-
-  all-there : (me se co : Option (List ℕ)) → At bs me (getD pl 0 0) → At bs se (getD pl 1 0) → At bs co (getD pl 2 0)
-      → All (There bs pl) (take (unitCount (setIn me se co)) (unitSetAs (setIn me se co) .units))
-  unfolding unitSetAs unitTypes
-  all-there (some x) (some y) (some z) a b c = ((lit< tt, a .0), ((lit< tt, b .0), ((lit< tt, c .0), ((lit< tt, d .0), ((lit< tt, i .0), tt)))))
-  all-there (some x) (some y) none a b c = ((lit< tt, a .0), ((lit< tt, b .0), ((lit< tt, d .0), ((lit< tt, i .0), tt))))
-  all-there (some x) none (some z) a b c = ((lit< tt, a .0), ((lit< tt, c .0), ((lit< tt, d .0), ((lit< tt, i .0), tt))))
-  all-there (some x) none none a b c = ((lit< tt, a .0), ((lit< tt, d .0), ((lit< tt, i .0), tt)))
-  all-there none (some y) (some z) a b c = ((lit< tt, b .0), ((lit< tt, c .0), ((lit< tt, d .0), ((lit< tt, i .0), tt))))
-  all-there none (some y) none a b c = ((lit< tt, b .0), ((lit< tt, d .0), ((lit< tt, i .0), tt)))
-  all-there none none (some z) a b c = ((lit< tt, c .0), ((lit< tt, d .0), ((lit< tt, i .0), tt)))
-  all-there none none none a b c = ((lit< tt, d .0), ((lit< tt, i .0), tt))
 
 -- ---- from the summary
 
@@ -161,13 +111,6 @@ module _ (l : Summary) (r : Bool) (e : r ≡ anySubtyped (l .places)) where
   unfolding subtypeAt
   subtype-6 t z = rw (← e, t, ne-eqb (getD (l .places) 0 0) 0 z)
 
--- a set's units fit the table
-pub units-fit : (s : Set) → unitCount s ≤ length (unitSetAs s .units)
-unfolding unitSetAs
-units-fit s =
-    let n : 5 ≤ length (map mainTypeAs (unitTypes s) ++ replicate 5 (mainTypeAs ID)) = simp (length-append, length-replicate) (omega arith) in
-    omega (arith, count-most s, length-take-le 5 (map mainTypeAs (unitTypes s) ++ replicate 5 (mainTypeAs ID)) n)
-
 module _ (bs : List ℕ) (l : Summary) (m : Meaning) (k : Makes bs l m) where
   abbrev is : List Item
   is = k .items
@@ -175,32 +118,42 @@ module _ (bs : List ℕ) (l : Summary) (m : Meaning) (k : Makes bs l m) where
   abbrev of : CompositeParts is m
   of = compositeFrom-parts is m (k .made)
 
-  pub permitted-parts : PermittedComposite (subtypeOf is) 0 (bodyIn META is) (bodyIn SEMANTIC is) (bodyIn CONTENT is) (of .dataBody) (of .instanceBody)
+  abbrev set : Set
+  set = setIn is
+
+  abbrev bodies : List (List ℕ)
+  bodies = bodiesIn (unitTypes set) is
+
+  pub permitted-parts : PermittedComposite (subtypeOf is) 0 set bodies
   permitted-parts = subst Permitted (sym (of .meaning)) (k .permitted)
 
-  abbrev set : Set
-  set = setIn (bodyIn META is) (bodyIn SEMANTIC is) (bodyIn CONTENT is)
+  seen : (t : permitted.MainType) → not (eqb (getD (l .places) (number t) 0) 0) ≡ has t is
+  seen t = ap not (place-tells bs (bodyIn t is) (getD (l .places) (number t) 0) (k .summary .places t)) ∙ not-not (has t is)
 
-  seen : (t : permitted.MainType) → not (eqb (getD (l .places) (permitted.number t) 0) 0) ≡ has t is
-  seen t = ap not (place-tells bs (bodyIn t is) (getD (l .places) (permitted.number t) 0) (k .summary .places t)) ∙ not-not (has t is)
-
-  set-is : setAt (l .places) ≡ set
-  set-is = rw (seen META, seen SEMANTIC, seen CONTENT)
+  set-at : setAt (l .places) ≡ set
+  set-at = rw (seen META, seen SEMANTIC, seen CONTENT)
 
   units-are : unitSetAs (setOf (setNumber (setAt (l .places)))) ≡ unitSetAs set
-  units-are = ap (λ (s : Set). unitSetAs (setOf (setNumber s))) set-is ∙ ap unitSetAs (set-back (has META is) (has SEMANTIC is) (has CONTENT is))
+  units-are = ap (λ (s : Set). unitSetAs (setOf (setNumber s))) set-at ∙ ap unitSetAs (set-back set)
 
-  at : (t : permitted.MainType) → Eight (bodyIn t is) → At bs (bodyIn t is) (getD (l .places) (permitted.number t) 0)
-  at t e = place-at bs (bodyIn t is) (getD (l .places) (permitted.number t) 0) e (k .summary .places t)
+  in-list : All (λ t. (number t < 5) × (has t is ≡ true)) (unitTypes set)
+  in-list =
+      types-all (λ t. (number t < 5) × (has t is ≡ true)) set (λ h. (lit< tt, h)) (λ h. (lit< tt, h)) (λ h. (lit< tt, h)) (lit< tt, of .dataIn) (lit< tt, of .instanceIn)
 
-  at-some : (t : permitted.MainType) (body : List ℕ) → bodyIn t is ≡ some body → Sized 8 body → At bs (some body) (getD (l .places) (permitted.number t) 0)
-  at-some t body e z = place-at bs (some body) (getD (l .places) (permitted.number t) 0) z (rw e at (k .summary .places t))
+  -- the i-th unit's body stands at the place of its main type
+  module _ (i : ℕ) (h : i < unitCount set) where
+    abbrev type : permitted.MainType
+    type = getD (unitTypes set) i ID
 
-  data-at : At bs (some (of .dataBody)) (getD (l .places) 3 0)
-  data-at = at-some DATA (of .dataBody) (of .dataIn) (permitted-parts .dataBody)
+    pub type-in : (number type < 5) × (has type is ≡ true)
+    type-in = all-at (λ t. (number t < 5) × (has t is ≡ true)) (unitTypes set) i ID in-list (omega (arith, types-count set))
 
-  instance-at : At bs (some (of .instanceBody)) (getD (l .places) 4 0)
-  instance-at = at-some INSTANCE (of .instanceBody) (of .instanceIn) (permitted-parts .instanceBody)
+    pub body-at : (getD (l .places) (number type) 0 + 8 ≤ length bs) × (take 8 (drop (getD (l .places) (number type) 0) bs) ≡ getD bodies i [])
+    body-at =
+        let b : getD bodies i [] ≡ bytesIn (bodyIn type is) = map-at (λ t. bytesIn (bodyIn t is)) (unitTypes set) i ID [] (omega (arith, types-count set)) in
+        let z : length (getD bodies i []) ≡ 8 = all-at (Sized 8) bodies i [] (permitted-parts .sized) (omega (arith, permitted-parts .count)) .0 in
+        let w = placed-at bs (bodyIn type is) (getD (l .places) (number type) 0) (type-in .1) (ap length (sym b) ∙ z) (k .summary .places type) in
+        (w .0, w .1 ∙ sym b)
 
   pub subtype-made : subtypeAt l ≡ subtypeOf is
   unfolding subtypeAt
@@ -208,28 +161,28 @@ module _ (bs : List ℕ) (l : Summary) (m : Meaning) (k : Makes bs l m) where
       subtype-by (anySubtyped (l .places)) (subtyped is) (eqb (getD (l .places) 0 0) 0) (has META is) (l .subtype) (firstSubtype is) (any-is bs is l (k .summary)) (k .summary .subtype) (place-tells bs (bodyIn META is) (getD (l .places) 0 0) (k .summary .places META))
       ∙ sym (subtype-of is (of .shared))
 
-  -- what `rows_of` asks
-  pub units-there : (u : UnitSet) → u ≡ unitSetAs (setOf (setNumber (setAt (l .places)))) → (i : ℕ) → i < u .count → There bs (l .places) (getD (u .units) i (record { number = 0 }))
-  unfolding unitSetAs
-  units-there u e i h =
-      let f : u ≡ unitSetAs set = e ∙ units-are in
-      let n : u .count ≡ unitCount set = ap (λ (x : UnitSet). x .count) f in
-      subst (λ (x : List MainType). There bs (l .places) (getD x i (record { number = 0 }))) (sym (ap (λ (x : UnitSet). x .units) f))
-      (all-at (There bs (l .places)) (unitCount set) (unitSetAs set .units) i (record { number = 0 })
-      (all-there bs (l .places) (of .dataBody) (of .instanceBody) data-at instance-at (bodyIn META is) (bodyIn SEMANTIC is) (bodyIn CONTENT is) (at META (permitted-parts .meta)) (at SEMANTIC (permitted-parts .semantic)) (at CONTENT (permitted-parts .content)))
-      (omega arith) (units-fit set))
+  -- what `rows_of` asks, and what it makes
+  module _ (u : UnitSet) (e : u ≡ unitSetAs (setOf (setNumber (setAt (l .places))))) where
+    set-is : u ≡ unitSetAs set
+    set-is = e ∙ units-are
 
-  pub list-made : (u : UnitSet) (r : List (List ℕ)) → u ≡ unitSetAs (setOf (setNumber (setAt (l .places))))
-      → r ≡ rows (λ i. take 8 (drop (placeIn (l .places) (u .units) i) bs)) (u .count) 5
-      → parts (setNumber (setAt (l .places))) (subtypeAt l) r ≡ compositeAs m
-  unfolding compositeAs unitSetAs
-  list-made u r e q =
-      let f : u ≡ unitSetAs set = e ∙ units-are in
-      let n : setNumber (setAt (l .places)) ≡ setNumber set = ap setNumber set-is in
-      let w : r ≡ rows (λ i. getD (bodiesIn (bodyIn META is) (bodyIn SEMANTIC is) (bodyIn CONTENT is) (of .dataBody) (of .instanceBody)) i []) (unitCount set) 5 =
-      q ∙ ap (λ (x : UnitSet). rows (λ i. take 8 (drop (placeIn (l .places) (x .units) i) bs)) (x .count) 5) f
-      ∙ rows-placed bs (l .places) (of .dataBody) (of .instanceBody) data-at instance-at (bodyIn META is) (bodyIn SEMANTIC is) (bodyIn CONTENT is) (at META (permitted-parts .meta)) (at SEMANTIC (permitted-parts .semantic)) (at CONTENT (permitted-parts .content)) in
-      ap (λ (s : ℕ). parts (setNumber (setAt (l .places))) s r) subtype-made
-      ∙ ap (λ (x : ℕ). parts x (subtypeOf is) r) n
-      ∙ ap (parts (setNumber set) (subtypeOf is)) w
-      ∙ ap compositeAs (of .meaning)
+    count-there : u .count ≡ unitCount set
+    unfolding unitSetAs
+    count-there = ap (λ (x : UnitSet). x .count) set-is
+
+    unit-there : (i : ℕ) (h : i < unitCount set) → getD (u .units) i (record { number = 0 }) ≡ mainTypeAs (type i h)
+    unit-there i h = ap (λ (x : UnitSet). getD (x .units) i (record { number = 0 })) set-is ∙ unit-at set i h
+
+    pub units-there : (i : ℕ) → i < u .count → There bs (l .places) (getD (u .units) i (record { number = 0 }))
+    units-there i h =
+        let g : i < unitCount set = omega (arith, count-there) in
+        subst⁻¹ (There bs (l .places)) (unit-there i g) (omega (arith, type-in i g .0), body-at i g .0)
+
+    pub list-made : (r : List (List ℕ)) → r ≡ rows (λ i. take 8 (drop (placeIn (l .places) (u .units) i) bs)) (u .count) 5
+        → parts (setNumber (setAt (l .places))) (subtypeAt l) r ≡ compositeAs m
+    unfolding compositeAs
+    list-made r q =
+        let w : r ≡ rows (λ i. getD bodies i []) (unitCount set) 5 =
+        q ∙ ap (λ (n : ℕ). rows (λ i. take 8 (drop (placeIn (l .places) (u .units) i) bs)) n 5) count-there
+        ∙ rows-same _ _ (unitCount set) 5 (λ i h. ap (λ (x : MainType). take 8 (drop (getD (l .places) (x .number) 0) bs)) (unit-there i h) ∙ body-at i h .1) in
+        ap (λ (n : ℕ). parts n (subtypeAt l) r) (ap setNumber set-at) ∙ rw (subtype-made, w) (ap compositeAs (of .meaning))

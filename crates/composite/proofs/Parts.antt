@@ -1,7 +1,7 @@
--- Bodies by their index, and parts of areas. Assumes nothing.
+-- Bodies by their index, and parts of areas.
 use Prim.Native.Nat.{ℕ, zero, suc, _+_, _-_, _*_, _≤_, _<_}
 use mathlib.Core.Path.{_≡_, refl, sym, _∙_, ap, ap₂}
-use mathlib.Core.List.{List, [], _∷_, _++_, append-assoc, append-nil}
+use mathlib.Core.List.{List, [], _∷_, _++_, flatten, append-assoc, append-nil}
 use native.Mathlib.Nat.{le-of-suc-le-suc, not-suc-le-zero, add-suc, add-zero}
 use native.Mathlib.Numerals.{add-one}
 use native.Mathlib.Omega.{arith}
@@ -59,11 +59,12 @@ row-at f zero (suc k) i h l = absurd (not-suc-le-zero h)
 row-at f (suc n) (suc k) zero h l = refl
 row-at f (suc n) (suc k) (suc i) h l = row-at (λ i. f (suc i)) n k i (le-of-suc-le-suc h) (le-of-suc-le-suc l)
 
-pub rows-same : (f g : ℕ → List ℕ) → ((i : ℕ) → f i ≡ g i) → (n k : ℕ) → rows f n k ≡ rows g n k
+pub rows-same : (f g : ℕ → List ℕ) (n k : ℕ) → ((i : ℕ) → i < n → f i ≡ g i) → rows f n k ≡ rows g n k
 unfolding rows
-rows-same f g e n zero = refl
-rows-same f g e zero (suc k) = ap (λ (r : List (List ℕ)). replicate 8 0 ∷ r) (rows-same f g e zero k)
-rows-same f g e (suc n) (suc k) = ap₂ (λ (x : List ℕ) (r : List (List ℕ)). x ∷ r) (e 0) (rows-same (λ i. f (suc i)) (λ i. g (suc i)) (λ i. e (suc i)) n k)
+rows-same f g n zero e = refl
+rows-same f g zero (suc k) e = ap (λ (r : List (List ℕ)). replicate 8 0 ∷ r) (rows-none f g k)
+rows-same f g (suc n) (suc k) e =
+    ap₂ (λ (x : List ℕ) (r : List (List ℕ)). x ∷ r) (e 0 (omega arith)) (rows-same (λ i. f (suc i)) (λ i. g (suc i)) n k (λ i h. e (suc i) (omega arith)))
 
 pub rows-eight : (f : ℕ → List ℕ) (n k : ℕ) → ((i : ℕ) → i < n → length (f i) ≡ 8) → (i : ℕ) → i < k → length (getD (rows f n k) i []) ≡ 8
 unfolding rows
@@ -124,3 +125,15 @@ pub laid-same : (f g : ℕ → List ℕ) → ((i : ℕ) → f i ≡ g i) → (n 
 unfolding laid
 laid-same f g e zero = refl
 laid-same f g e (suc n) = ap₂ (λ (x y : List ℕ). x ++ y) (laid-same f g e n) (e n)
+
+-- parts laid by their index are the list of them laid end to end
+laid-front : (f : ℕ → List ℕ) (n : ℕ) → laid f (suc n) ≡ f 0 ++ laid (λ i. f (suc i)) n
+unfolding laid
+laid-front f zero = sym (append-nil (f 0))
+laid-front f (suc n) = rw (laid-front f n) (append-assoc (f 0) (laid (λ i. f (suc i)) n) (f (suc n)))
+
+pub laid-flat : (f : ℕ → List ℕ) (xs : List (List ℕ)) → ((i : ℕ) → i < length xs → f i ≡ getD xs i []) → laid f (length xs) ≡ flatten xs
+unfolding laid flatten
+laid-flat f [] e = refl
+laid-flat f (x ∷ xs) e =
+    laid-front f (length xs) ∙ ap₂ (λ (x y : List ℕ). x ++ y) (e 0 (omega arith)) (laid-flat (λ i. f (suc i)) xs (λ i h. e (suc i) (omega arith)))

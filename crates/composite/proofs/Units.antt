@@ -1,42 +1,44 @@
--- A composite as its units. Assumes nothing.
+-- A composite as its units.
 use Prim.Native.Nat.{ℕ, _+_, _-_, _*_, _≤_, _<_}
 use mathlib.Core.Path.{_≡_, refl, sym, _∙_, ap, ap₂, subst, subst⁻¹}
-use mathlib.Core.Bool.{Bool, true, false, cond, false≢true}
-use mathlib.Core.Option.{Option, none, some}
-use mathlib.Core.List.{List, [], _++_, append-assoc, append-nil}
+use mathlib.Core.Bool.{Bool, true, false, cond, false≢true, or-true}
+use mathlib.Core.List.{List, [], _∷_, _++_, map, flatten, append-nil}
 use native.Mathlib.Omega.{arith}
-use lib.ListN.{length, take, drop, getD, length-append, length-drop, drop-of-length-le}
+use lib.ListN.{length, take, drop, getD, length-append, length-drop, length-map, drop-of-length-le}
 use lib.Seq.{take-all, drop-drop}
 use lib.Dec.{eqb, lit<}
-use borrow.Author.Tests.{eq-eqb, lt-ltb, le-leb, leb-true}
+use borrow.Author.Tests.{eq-eqb, lt-ltb, le-leb}
 use Rattle.iscc.specs.Refusals.{Refusal, notPermitted}
 use Rattle.iscc.specs.Answer.{Answer, accept, refuse, _>>=_, areaAfter}
 use Rattle.iscc.specs.Digits.{Below}
 use Rattle.iscc.specs.Header.{headerBytes}
-use Rattle.iscc.specs.Permitted.{MainType, ISCC, number, typeOf, mainTypeOf, isUnit, Set, sets, setOf, setNumber, unitTypes, unitCount, compositeSubtype, row, permits, bodyBytes}
+use Rattle.iscc.specs.Permitted.{MainType, ISCC, ID, number, typeOf, mainTypeOf, isUnit, Set, setOf, setNumber, unitTypes, unitCount, compositeSubtype, row, permits, bodyBytes}
 use Rattle.iscc.specs.Meaning.{composite, Permitted}
 use Rattle.iscc.specs.Item.{Item, itemBytes, readOne, unitBytes, writeUnit, compositeOf, meaningAs, meaningOf}
-use Rattle.iscc.specs.Items.{unitsOf, itemsBytes, splitBytes}
-use Rattle.iscc.specs.Forms.{unitSetAs}
+use Rattle.iscc.specs.Lists.{All}
+use Rattle.iscc.specs.Items.{unit64, unitWith, unitsOf, itemsBytes, splitBytes}
+use Rattle.iscc.specs.Forms.{mainTypeAs, unitSetAs}
 use Rattle.iscc.specs.declared.main_type.MainType as code
 use Rattle.iscc.specs.declared.tables.UnitSet.{UnitSet}
 use Rattle.iscc.proofs.Header.{length-short}
-use Rattle.iscc.proofs.Permitted.{unit-or-composite, number-type, number-back, count-most, small}
+use Rattle.iscc.proofs.Lists.{all-at, map-at, zip-at}
+use Rattle.iscc.proofs.Cut.{cut-at}
+use Rattle.iscc.proofs.Permitted.{unit-or-composite, number-type, number-back, set-back, count-most, small, subtype-low, types-count, types-all, type-number}
 use Rattle.iscc.proofs.Item.{PermittedItem}
 use Rattle.iscc.proofs.Items.{sameType-eq}
-use Rattle.iscc.proofs.Split.{unitsIn, one-read}
+use Rattle.iscc.proofs.Split.{units, units-count, one-read}
 use Rattle.iscc.proofs.Meaning.{unit-means, meant-item}
 use Rattle.units.specs.Summary.{isSubtyped}
 use Rattle.unit.specs.Forms.{headerOf}
 use Rattle.unit.specs.declared.reader.Unit.{Unit}
-use Rattle.unit.proofs.Sole.{OneIs}
+use Rattle.unit.proofs.ExactlyOne.{OneIs}
 use Rattle.unit.proofs.Table.{seven}
 use Rattle.composite.specs.declared.bodies.Composite.{Composite}
 use Rattle.composite.specs.Bodies.{parts, rows, laid, compositeAs}
 use Rattle.composite.specs.Code.{Sound, unitOf, unitAt, splitInto}
-use Rattle.units.proofs.Reached.{rest-is}
-use Rattle.composite.proofs.Parts.{laid-length, laid-same, rows-same}
-use Rattle.composite.proofs.Made.{All, all-at, units-fit}
+use Rattle.iscc.proofs.Parts.{rest-is}
+use Rattle.composite.proofs.Parts.{laid-length, laid-same, laid-flat, row-at, rows-same}
+use Rattle.composite.proofs.Made.{unit-at}
 use Rattle.composite.proofs.Bytes.{sound-of}
 
 -- ---- one unit of 64 bits
@@ -132,17 +134,10 @@ Ok s m = (m .number < 5) × (isSubtyped (m .number) ≡ true → s ≤ 4)
 no : (s : ℕ) → false ≡ true → s ≤ 4
 no s e = absurd (false≢true e)
 
-all-ok : (s : ℕ) (a b c : Bool) → compositeSubtype (setNumber (record { meta = a; semantic = b; content = c })) s ≡ true
-    → All (Ok s) (take (unitCount (record { meta = a; semantic = b; content = c })) (unitSetAs (record { meta = a; semantic = b; content = c }) .units))
-unfolding unitSetAs unitTypes compositeSubtype
-all-ok s true true true e = let k : s ≤ 4 = leb-true s 4 e in ((lit< tt, no s), ((lit< tt, λ _. k), ((lit< tt, λ _. k), ((lit< tt, no s), ((lit< tt, no s), tt)))))
-all-ok s true true false e = let k : s ≤ 4 = leb-true s 4 e in ((lit< tt, no s), ((lit< tt, λ _. k), ((lit< tt, no s), ((lit< tt, no s), tt))))
-all-ok s true false true e = let k : s ≤ 4 = leb-true s 4 e in ((lit< tt, no s), ((lit< tt, λ _. k), ((lit< tt, no s), ((lit< tt, no s), tt))))
-all-ok s true false false e = ((lit< tt, no s), ((lit< tt, no s), ((lit< tt, no s), tt)))
-all-ok s false true true e = let k : s ≤ 4 = leb-true s 4 e in ((lit< tt, λ _. k), ((lit< tt, λ _. k), ((lit< tt, no s), ((lit< tt, no s), tt))))
-all-ok s false true false e = let k : s ≤ 4 = leb-true s 4 e in ((lit< tt, λ _. k), ((lit< tt, no s), ((lit< tt, no s), tt)))
-all-ok s false false true e = let k : s ≤ 4 = leb-true s 4 e in ((lit< tt, λ _. k), ((lit< tt, no s), ((lit< tt, no s), tt)))
-all-ok s false false false e = ((lit< tt, no s), ((lit< tt, no s), tt))
+all-ok : (s : ℕ) (u : Set) → compositeSubtype (setNumber u) s ≡ true → All (λ t. Ok s (mainTypeAs t)) (unitTypes u)
+all-ok s u e =
+    types-all (λ t. Ok s (mainTypeAs t)) u (λ h. (lit< tt, no s)) (λ h. (lit< tt, λ _. subtype-low s u e (rw h)))
+    (λ h. (lit< tt, λ _. subtype-low s u e (rw h (or-true (u .semantic))))) (lit< tt, no s) (lit< tt, no s)
 
 module _ (c : Composite) (ok : Sound c) where
   abbrev set : Set
@@ -150,9 +145,9 @@ module _ (c : Composite) (ok : Sound c) where
 
   unit-ok : (i : ℕ) → i < unitCount set → Ok (c .subtype) (getD (unitSetAs set .units) i (record { number = 0 }))
   unit-ok i h =
-      all-at (Ok (c .subtype)) (unitCount set) (unitSetAs set .units) i (record { number = 0 })
-      (all-ok (c .subtype) (set .meta) (set .semantic) (set .content) (ap (λ (l : ℕ). compositeSubtype l (c .subtype)) (number-back (c .length) (ok .number)) ∙ ok .subtype))
-      h (units-fit set)
+      subst⁻¹ (Ok (c .subtype)) (unit-at set i h)
+      (all-at (λ t. Ok (c .subtype) (mainTypeAs t)) (unitTypes set) i ID
+      (all-ok (c .subtype) set (ap (λ (l : ℕ). compositeSubtype l (c .subtype)) (number-back (c .length) (ok .number)) ∙ ok .subtype)) (omega (arith, types-count set)))
 
   pub unit-long : (i : ℕ) → i < unitCount set → length (itemBytes (unitAt c i)) ≡ 10
   unfolding unitAt
@@ -198,34 +193,44 @@ module _ (c : Composite) (ok : Sound c) where
 
 -- ---- a composite's bytes as its units
 
-module _ (s v : ℕ) (da ins : List ℕ) where
-  split-laid : (me se co : Option (List ℕ)) → itemsBytes (unitsIn s me se co da ins) ≡ splitInto (compositeAs (composite s v me se co da ins))
-  unfolding itemsBytes splitInto unitAt compositeAs laid rows unitSetAs unitTypes setOf sets typeOf
-  split-laid (some x) (some y) (some z) = simp (append-assoc, append-nil)
-  split-laid (some x) (some y) none = simp (append-assoc, append-nil)
-  split-laid (some x) none (some z) = simp (append-assoc, append-nil)
-  split-laid (some x) none none = simp (append-assoc, append-nil)
-  split-laid none (some y) (some z) = simp (append-assoc, append-nil)
-  split-laid none (some y) none = simp (append-assoc, append-nil)
-  split-laid none none (some z) = simp (append-assoc, append-nil)
-  split-laid none none none = simp (append-assoc, append-nil)
+items-flat : (is : List Item) → flatten (map itemBytes is) ≡ itemsBytes is
+unfolding itemsBytes flatten
+items-flat [] = refl
+items-flat (i ∷ is) = rw (items-flat is)
 
--- the bodies behind a composite's header, by the eight sets
-last-eight : (k : ℕ) (bs : List ℕ) → length bs ≡ k + 8 → take 8 (drop k bs) ≡ drop k bs
-last-eight k bs e = take-all 8 (drop k bs) (omega (arith, length-drop k bs))
+module _ (s v : ℕ) (u : Set) (bodies : List (List ℕ)) (p : Permitted (composite s v u bodies)) where
+  abbrev us : List Item
+  us = units s v u bodies p
 
-rows-in : (s v : ℕ) (a b c : Bool) (bs : List ℕ) → length bs ≡ unitCount (record { meta = a; semantic = b; content = c }) * 8
-    → compositeAs (compositeOf s v (record { meta = a; semantic = b; content = c }) bs)
-    ≡ parts (setNumber (record { meta = a; semantic = b; content = c })) s (rows (λ i. take 8 (drop (i * 8) bs)) (unitCount (record { meta = a; semantic = b; content = c })) 5)
-unfolding compositeAs compositeOf rows
-rows-in s v true true true bs n = simp (drop-drop) (rw (last-eight 32 bs n))
-rows-in s v true true false bs n = simp (drop-drop) (rw (last-eight 24 bs n))
-rows-in s v true false true bs n = simp (drop-drop) (rw (last-eight 24 bs n))
-rows-in s v true false false bs n = simp (drop-drop) (rw (last-eight 16 bs n))
-rows-in s v false true true bs n = simp (drop-drop) (rw (last-eight 24 bs n))
-rows-in s v false true false bs n = simp (drop-drop) (rw (last-eight 16 bs n))
-rows-in s v false false true bs n = simp (drop-drop) (rw (last-eight 16 bs n))
-rows-in s v false false false bs n = rw (last-eight 8 bs n)
+  us-count : length us ≡ unitCount u
+  us-count = units-count s v u bodies p
+
+  unit-is : (i : ℕ) → i < unitCount u → unitAt (compositeAs (composite s v u bodies)) i ≡ getD us i (unit64 ID 0 [])
+  unfolding unitAt compositeAs
+  unit-is i h =
+      let n : getD (unitSetAs (setOf (setNumber u)) .units) i (record { number = 0 }) ≡ mainTypeAs (getD (unitTypes u) i ID) = rw (set-back u) (unit-at u i h) in
+      let r : getD (rows (λ j. getD bodies j []) (unitCount u) 5) i [] ≡ getD bodies i [] = row-at (λ j. getD bodies j []) (unitCount u) 5 i h (omega (arith, count-most u)) in
+      let t : typeOf (number (getD (unitTypes u) i ID)) ≡ getD (unitTypes u) i ID = type-number (getD (unitTypes u) i ID) in
+      rw (n, r, t) (sym (zip-at (unitWith s) (unitTypes u) bodies i ID [] _ (omega (arith, types-count u)) (omega (arith, p .count))))
+
+  abbrev value : Composite
+  value = compositeAs (composite s v u bodies)
+
+  bytes-is : (i : ℕ) → i < length (map itemBytes us) → itemBytes (unitAt value i) ≡ getD (map itemBytes us) i []
+  bytes-is i h =
+      let l : i < length us = omega (arith, length-map us itemBytes) in
+      ap itemBytes (unit-is i (omega (arith, us-count))) ∙ sym (map-at itemBytes us i (unit64 ID 0 []) [] l)
+
+  split-laid : itemsBytes us ≡ splitInto value
+  unfolding splitInto compositeAs
+  split-laid =
+      let n : length (map itemBytes us) ≡ unitCount (setOf (setNumber u)) = length-map us itemBytes ∙ us-count ∙ ap unitCount (sym (set-back u)) in
+      sym (items-flat us) ∙ sym (laid-flat (λ i. itemBytes (unitAt value i)) (map itemBytes us) bytes-is) ∙ ap (laid (λ i. itemBytes (unitAt value i))) n
+
+-- the bodies behind a composite's header
+rows-in : (s v : ℕ) (u : Set) (bs : List ℕ) → compositeAs (compositeOf s v u bs) ≡ parts (setNumber u) s (rows (λ i. take 8 (drop (i * 8) bs)) (unitCount u) 5)
+unfolding compositeAs compositeOf
+rows-in s v u bs = ap (parts (setNumber u) s) (rows-same _ _ (unitCount u) 5 (λ i h. cut-at 8 (unitCount u) bs i h))
 
 -- ---- split
 
@@ -246,25 +251,22 @@ module _ (s v l : ℕ) (body : List ℕ) (p : PermittedItem (record { mainType =
   small-number : l ≤ 7
   small-number = small ISCC s v l (p .header) .lengthNo
 
-  body-length : length body ≡ unitCount (setOf l) * 8
-  unfolding bodyBytes
-  body-length = p .body .0
-
   as-rows : compositeAs (compositeOf s v (setOf l) body) ≡ rowed s l body
   as-rows =
-      rows-in s v (setOf l .meta) (setOf l .semantic) (setOf l .content) body body-length
+      rows-in s v (setOf l) body
       ∙ ap (λ (n : ℕ). parts n s (rows (λ i. take 8 (drop (i * 8) body)) (unitCount (setOf l)) 5)) (number-back l small-number)
 
-  sound-composite : Permitted (meaningOf item) → Sound (compositeAs (compositeOf s v (setOf l) body))
-  unfolding meaningAs compositeOf
-  sound-composite q = sound-of s v _ _ _ _ _ q
+  bodies-permitted : Permitted (compositeOf s v (setOf l) body)
+  unfolding meaningAs
+  bodies-permitted = meant-item item p
 
   pub rowed-sound : Sound (rowed s l body)
-  rowed-sound = subst Sound as-rows (sound-composite (meant-item item p))
+  unfolding compositeOf
+  rowed-sound = subst Sound as-rows (sound-of s v (setOf l) _ bodies-permitted)
 
   units-laid : (unitsOf (meaningOf item) >>= λ is. accept (itemsBytes is)) ≡ accept (splitInto (compositeAs (compositeOf s v (setOf l) body)))
   unfolding meaningAs compositeOf unitsOf
-  units-laid = ap accept (split-laid s v _ _ _ _ _)
+  units-laid = ap accept (split-laid s v (setOf l) _ bodies-permitted)
 
   pub rowed-units : (unitsOf (meaningOf item) >>= λ is. accept (itemsBytes is)) ≡ accept (splitInto (rowed s l body))
   rowed-units = units-laid ∙ ap (λ (c : Composite). accept (splitInto c)) as-rows
@@ -298,7 +300,7 @@ module _ (bs : List ℕ) (u : Unit) (w : OneIs bs u) where
     same-rows =
         let e : w .item .body ≡ drop 2 bs = w .body ∙ ap (λ (k : ℕ). drop k bs) (w .start) in
         ap (parts (u .length) (u .subtype))
-        (rows-same (λ i. take 8 (drop (i * 8) (w .item .body))) (λ i. take 8 (drop (2 + i * 8) bs)) (λ i. ap (take 8) (ap (drop (i * 8)) e ∙ drop-drop (i * 8) 2 bs)) (unitCount (setOf (u .length))) 5)
+        (rows-same _ _ (unitCount (setOf (u .length))) 5 (λ i h. ap (take 8) (ap (drop (i * 8)) e ∙ drop-drop (i * 8) 2 bs)))
 
     module _ (k : Below 256 bs) where
       abbrev whole : Item

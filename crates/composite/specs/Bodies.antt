@@ -1,14 +1,13 @@
 -- A composite by value, and the meaning that it has. Assumes nothing.
-use Prim.Native.Nat.{ℕ, zero, suc, _+_, _*_, _≤_, _<_}
+use Prim.Native.Nat.{ℕ, zero, suc}
 use mathlib.Core.Path.{_≡_}
-use mathlib.Core.Bool.{Bool, true, false, cond, not, _||_}
-use mathlib.Core.Option.{Option, none, some}
+use mathlib.Core.Bool.{cond, not}
 use mathlib.Core.List.{List, [], _∷_, _++_}
-use lib.ListN.{length, take, drop, getD, replicate}
+use lib.ListN.{length, getD, replicate}
 use lib.Dec.{eqb}
 use Rattle.iscc.specs.Answer.{accept}
 use Rattle.iscc.specs.Permitted.{Set, setNumber, unitCount}
-use Rattle.iscc.specs.Meaning.{Meaning, unit, composite, setIn, Permitted}
+use Rattle.iscc.specs.Meaning.{Meaning, unit, composite, Permitted}
 use Rattle.iscc.specs.Item.{Item}
 use Rattle.iscc.specs.Items.{compositeFrom}
 use Rattle.iscc.specs.declared.main_type.MainType.{MainType}
@@ -30,18 +29,9 @@ unfoldable pub laid : (ℕ → List ℕ) → ℕ → List ℕ
 laid f zero = []
 laid f (suc n) = laid f n ++ f n
 
--- the bodies of a meaning, in the composite's order
-abbrev pub bodyIf : Option (List ℕ) → List (List ℕ)
-bodyIf none = []
-bodyIf (some body) = body ∷ []
-
-abbrev pub bodiesIn : Option (List ℕ) → Option (List ℕ) → Option (List ℕ) → List ℕ → List ℕ → List (List ℕ)
-bodiesIn me se co da ins = bodyIf me ++ bodyIf se ++ bodyIf co ++ (da ∷ ins ∷ [])
-
 -- a composite's meaning by value; a unit has none
 unfoldable pub compositeAs : Meaning → Composite
-compositeAs (composite s v me se co da ins) =
-    parts (setNumber (setIn me se co)) s (rows (λ i. getD (bodiesIn me se co da ins) i []) (unitCount (setIn me se co)) 5)
+compositeAs (composite s v units bodies) = parts (setNumber units) s (rows (λ i. getD bodies i []) (unitCount units) 5)
 compositeAs (unit m s v body) = parts 0 0 []
 
 -- ---- from a list's summary

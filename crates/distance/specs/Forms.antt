@@ -4,13 +4,14 @@ use mathlib.Core.Path.{_≡_}
 use mathlib.Core.Bool.{Bool, true, _&&_}
 use mathlib.Core.Logic.{_⊎_}
 use mathlib.Core.List.{List}
-use lib.Dec.{eqb, leb}
+use lib.Dec.{eqb}
 use lib.IntN.{pos}
 use lib.Ieee.{binary32, ofInt, mul, eq}
 use Rattle.iscc.specs.Refusals.{Refusal}
 use Rattle.iscc.specs.Answer.{Answer, refuse, numberOf}
-use Rattle.iscc.specs.Distance.{ratioOf, differingBits, comparedBits, distanceAnswer}
+use Rattle.iscc.specs.Distance.{ratioOf, differingBits, comparedBits, hasDistance, distanceAnswer}
 use Rattle.iscc.specs.Distance as definition
+use Rattle.iscc.specs.Permitted.{typeOf}
 use Rattle.iscc.specs.Item.{readOne}
 use Rattle.unit.specs.Forms.{oneReadAs}
 use Rattle.unit.specs.declared.reader.Unit.{Unit}
@@ -40,9 +41,10 @@ refusedAs q = measuredAs (refuse q)
 abbrev pub Holds : List ℕ → Unit → Type 0
 Holds bs u = oneReadAs bs (readOne bs) ≡ read.Unit u
 
--- whether main type (0 to 3) and subtype agree
+-- whether main type (META to DATA) and subtype agree
 abbrev pub comparableAs : Unit → Unit → Bool
-comparableAs u v = eqb (u .«main_type» .number) (v .«main_type» .number) && leb (u .«main_type» .number) 3 && eqb (u .subtype) (v .subtype)
+comparableAs u v =
+    eqb (u .«main_type» .number) (v .«main_type» .number) && hasDistance (typeOf (u .«main_type» .number)) && eqb (u .subtype) (v .subtype)
 
 -- "Where n is 32, 64, 128 or 256 the ratio is exactly d / n": the float product of the ratio and n equals d as a float
 abbrev pub Exact : Distance → Type 0

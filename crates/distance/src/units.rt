@@ -3,23 +3,41 @@ ghost use mathlib.Core.Path.{_≡_};
 ghost use Prim.Native.Nat.{_≤_};
 ghost use lib.ListN.{length};
 ghost use Rattle.iscc.specs.Answer.{accept};
-ghost use Rattle.iscc.specs.Distance.{distance};
+ghost use Rattle.iscc.specs.Permitted.{typeOf};
+ghost use Rattle.iscc.specs.Distance.{hasDistance, distance};
 ghost use Rattle.distance.specs.Forms.{measuredAs, bodyDistance, Holds, comparableAs, Exact};
 use crate::answer::Distance;
 use crate::answer::Measured;
 use crate::bits;
+use iscc::main_type::MainType;
 use iscc::refusal::Refusal;
 use unit::reader::Unit;
 use unit::reader::UnitRead;
 
-// Whether main type (0 to 3) and subtype agree.
+// Whether units of a main type have a distance.
+fn has_distance(main_type: MainType) -> bool
+    ensures { λ r. ⌜ r ≡ hasDistance (typeOf («main_type» .number)) ⌝ }
+{
+    if main_type.is(MainType::META) {
+        return true;
+    }
+    if main_type.is(MainType::SEMANTIC) {
+        return true;
+    }
+    if main_type.is(MainType::CONTENT) {
+        return true;
+    }
+    main_type.is(MainType::DATA)
+}
+
+// Whether main type (META to DATA) and subtype agree.
 fn comparable(u: Unit, v: Unit) -> bool
     ensures { λ r. ⌜ r ≡ comparableAs u v ⌝ }
 {
     if !u.main_type.is(v.main_type) {
         return false;
     }
-    if 3 < u.main_type.number() {
+    if !has_distance(u.main_type) {
         return false;
     }
     u.subtype == v.subtype

@@ -3,7 +3,6 @@ pub mod Same
 pub mod Blanks
 pub mod Places
 pub mod Runs
-pub mod Copied
 pub mod Texts
 pub mod Payloads
 pub mod Codes

@@ -4,7 +4,7 @@ use mathlib.Core.Path.{_≡_, refl, sym, _∙_, ap}
 use mathlib.Core.Bool.{Bool, true, false, not, _||_}
 use mathlib.Core.List.{List}
 use native.Mathlib.Omega.{arith}
-use borrow.Author.Tests.{not-true, not-false}
+use borrow.Author.Tests.{not-true, not-false, ltb-true, ltb-false}
 use lib.ListN.{length, getD, take, drop}
 use lib.Dec.{eqb, ltb, leb}
 use Rattle.iscc.specs.Digits.{value}
@@ -32,25 +32,29 @@ module _ (bs : List ℕ) (at : ℕ) where
   number-none l = sym (ap numberAs (read-cut (nibbles bs) at (omega (arith, length-nibbles bs, row-some (getD (nibbles bs) at 0)))))
 
   module _ {h : ℕ} (there : at / 2 < length bs) (eh : h ≡ getD (nibbles bs) at 0) where
-    pub number-ones : 15 ≤ h → none ≡ found
-    number-ones g = sym (ap numberAs (read-ones (nibbles bs) at (rw eh at g)))
+    module _ {t : Bool} (et : t ≡ ltb h 15) where
+      pub number-ones : not t ≡ true → none ≡ found
+      number-ones n = sym (ap numberAs (read-ones (nibbles bs) at (rw eh at (ltb-false h 15 (sym et ∙ not-true t n)))))
 
-    module _ (r : Row) (few : h < 15) (er : r ≡ rowAs (rowBy h)) (some : 1 ≤ r .width) where
-      row-width : rowBy (getD (nibbles bs) at 0) ≡ r .width
-      row-width = ap rowBy (sym eh) ∙ ap (λ (x : Row). x .width) (sym er)
+      module _ (row-there : not t ≡ false) (r : Row) (er : r ≡ rowAs (rowBy h)) (some : 1 ≤ r .width) where
+        few : h < 15
+        few = ltb-true h 15 (sym et ∙ not-false t row-there)
 
-      pub number-cut : length bs ≤ (at + r .width - 1) / 2 → none ≡ found
-      number-cut l =
-          sym (ap numberAs (read-cut (nibbles bs) at (rw row-width (omega (arith, length-nibbles bs)))))
+        row-width : rowBy (getD (nibbles bs) at 0) ≡ r .width
+        row-width = ap rowBy (sym eh) ∙ ap (λ (x : Row). x .width) (sym er)
 
-      pub number-here : {v : ℕ} → (at + r .width - 1) / 2 < length bs → v ≡ value 4 (take (r .width) (drop at (nibbles bs)))
-          → record { value = r .first + v % r .count; width = r .width } ≡ found
-      number-here {v} l ev =
-          let k : ℕ = r .width in
-          let w : rowBy h ≡ k = ap (λ (x : Row). x .width) (sym er) in
-          let f : r .first ≡ firstOf k = ap (λ (x : Row). x .first) er ∙ ap firstOf w in
-          let c : r .count ≡ 2 ^ (3 * k) = ap (λ (x : Row). x .count) er ∙ ap (λ (j : ℕ). 2 ^ (3 * j)) w in
-          rw (f, c, ev, ← row-width) (sym (ap numberAs (read-here (nibbles bs) at (rw eh at few) (rw row-width (omega (arith, length-nibbles bs))))))
+        pub number-cut : length bs ≤ (at + r .width - 1) / 2 → none ≡ found
+        number-cut l =
+            sym (ap numberAs (read-cut (nibbles bs) at (rw row-width (omega (arith, length-nibbles bs)))))
+
+        pub number-here : {v : ℕ} → (at + r .width - 1) / 2 < length bs → v ≡ value 4 (take (r .width) (drop at (nibbles bs)))
+            → record { value = r .first + v % r .count; width = r .width } ≡ found
+        number-here {v} l ev =
+            let k : ℕ = r .width in
+            let w : rowBy h ≡ k = ap (λ (x : Row). x .width) (sym er) in
+            let f : r .first ≡ firstOf k = ap (λ (x : Row). x .first) er ∙ ap firstOf w in
+            let c : r .count ≡ 2 ^ (3 * k) = ap (λ (x : Row). x .count) er ∙ ap (λ (j : ℕ). 2 ^ (3 * j)) w in
+            rw (f, c, ev, ← row-width) (sym (ap numberAs (read-here (nibbles bs) at (rw eh at few) (rw row-width (omega (arith, length-nibbles bs))))))
 
 -- ---- what a width says of the varnibble read
 

@@ -13,7 +13,7 @@ use Rattle.iscc.specs.Answer.{accept}
 use Rattle.iscc.specs.Digits.{digits}
 use Rattle.iscc.specs.Varnibble.{varnibble, prefixOf, firstOf}
 use Rattle.iscc.specs.Header.{Header, packed, headerBytes, readHeader}
-use Rattle.iscc.proofs.Booleans.{and-true}
+use Rattle.iscc.proofs.Booleans.{both-true}
 use Rattle.iscc.proofs.Varnibble.{row-is-1}
 use Rattle.iscc.proofs.Header.{read-header}
 use Rattle.header.specs.declared.reader.HeaderRead.the-variants as read
@@ -41,9 +41,9 @@ pub short-there : (bs : List ℕ) (r : Bool) (h : RawHeader) → 2 ≤ length bs
 short-there bs r h l e t f =
     let a : ℕ = getD bs 0 0 in
     let b : ℕ = getD bs 1 0 in
-    let p = and-true (ltb a 128 && ltb (a % 16) 8 && ltb b 128) (ltb (b % 16) 8) (sym e ∙ t) in
-    let q = and-true (ltb a 128 && ltb (a % 16) 8) (ltb b 128) (p .0) in
-    let s = and-true (ltb a 128) (ltb (a % 16) 8) (q .0) in
+    let p = both-true (ltb a 128 && ltb (a % 16) 8 && ltb b 128) (ltb (b % 16) 8) (sym e ∙ t) in
+    let q = both-true (ltb a 128 && ltb (a % 16) 8) (ltb b 128) (p .0) in
+    let s = both-true (ltb a 128) (ltb (a % 16) 8) (q .0) in
     let a₁ : a < 128 = ltb-true a 128 (s .0) in
     let a₂ : a % 16 < 8 = ltb-true (a % 16) 8 (s .1) in
     let b₁ : b < 128 = ltb-true b 128 (q .1) in

@@ -18,7 +18,7 @@ use Rattle.iscc.specs.Header.{packed, headerBytes, rawHeader, writeHeader}
 use Rattle.iscc.specs.Header as iscc
 use Rattle.iscc.specs.Forms.{writtenAs}
 use Rattle.iscc.specs.declared.written.Written.the-variants.{Length, Refused}
-use Rattle.iscc.proofs.Booleans.{and-true}
+use Rattle.iscc.proofs.Booleans.{both-true}
 use Rattle.iscc.proofs.Digits.{length-digits}
 use Rattle.iscc.proofs.Groups.{digits-join}
 use Rattle.iscc.proofs.Header.{Writable, raw-header}
@@ -87,9 +87,9 @@ module _ (h : Header) {t : Bool} (et : t ≡ (leb (h .«main_type») 4679 && (le
 
   pub all-writable : not t ≡ false → Writable (headerFrom h)
   all-writable e =
-      let a = and-true (leb (h .«main_type») 4679) _ (sym et ∙ not-false t e) in
-      let b = and-true (leb (h .subtype) 4679) _ (a .1) in
-      let c = and-true (leb (h .version) 4679) (leb (h .length) 4679) (b .1) in
+      let a = both-true (leb (h .«main_type») 4679) _ (sym et ∙ not-false t e) in
+      let b = both-true (leb (h .subtype) 4679) _ (a .1) in
+      let c = both-true (leb (h .version) 4679) (leb (h .length) 4679) (b .1) in
       (leb-true (h .«main_type») 4679 (a .0), leb-true (h .subtype) 4679 (b .0), leb-true (h .version) 4679 (c .0), leb-true (h .length) 4679 (c .1))
 
   module _ (d : List ℕ) where

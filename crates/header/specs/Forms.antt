@@ -29,6 +29,31 @@ abbrev pub headerReadAs : Answer (Parsed iscc.Header) → HeaderRead
 headerReadAs (accept g) = read.Header (rawHeaderAs g)
 headerReadAs (refuse q) = read.Refused q
 
+-- Document 01's numbers for each case of a reader's answer: its number, the header's four numbers and the bytes used. A refusal
+-- has its number, and zero for every other.
+pub record Fields : Type 0 where
+  pub number : ℕ
+  pub mainType : ℕ
+  pub subtype : ℕ
+  pub version : ℕ
+  pub lengthNumber : ℕ
+  pub used : ℕ
+
+abbrev pub noFields : ℕ → Fields
+noFields n = record { number = n; mainType = 0; subtype = 0; version = 0; lengthNumber = 0; used = 0 }
+
+abbrev pub headerFields : HeaderRead → Fields
+headerFields (read.Header h) =
+    record {
+      number = 0;
+      mainType = h .header .«main_type»;
+      subtype = h .header .subtype;
+      version = h .header .version;
+      lengthNumber = h .header .length;
+      used = h .used;
+    }
+headerFields (read.Refused q) = noFields (q .number)
+
 -- a row of the varnibble table by its count of nibbles
 abbrev pub rowAs : ℕ → Row
 rowAs k = record { width = k; first = firstOf k; count = 2 ^ (3 * k); prefix = prefixOf k * 2 ^ (3 * k); size = 2 ^ (4 * k) }

@@ -75,18 +75,18 @@ fn number_at(bytes: &[u8], at: usize) -> Number
         return NONE;
     }
     let first = nibble(bytes, at);
-    if 15 <= first {
+    if !rows::has_row(first) {
         return NONE;
     }
     let row = rows::row_by(first);
-    if bytes.len() <= (at + row.width - 1) / 2 {
-        return NONE;
+    if (at + row.width - 1) / 2 < bytes.len() {
+        let v = value_at(bytes, at, row.width);
+        return Number {
+            value: row.first + v % row.count,
+            width: row.width,
+        };
     }
-    let v = value_at(bytes, at, row.width);
-    Number {
-        value: row.first + v % row.count,
-        width: row.width,
-    }
+    NONE
 }
 
 // The four varnibbles at the front of the bytes, each behind the one before.

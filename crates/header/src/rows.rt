@@ -1,6 +1,7 @@
 // The rows of the varnibble table.
 ghost use mathlib.Core.Path.{_≡_};
 ghost use Prim.Native.Nat.{_+_, _≤_, _<_};
+ghost use lib.Dec.{ltb};
 ghost use Rattle.iscc.specs.Varnibble.{rowOf, rowBy};
 ghost use Rattle.header.specs.Forms.{rowAs, RowBounds};
 
@@ -44,6 +45,13 @@ const FOUR: Row = Row {
     prefix: 0xE000,
     size: 65536,
 };
+
+// Whether a first nibble has a row: 1111 has none.
+pub(crate) fn has_row(first: u32) -> bool
+    ensures { λ r. ⌜ r ≡ ltb first 0b1111 ⌝ }
+{
+    first < 0b1111
+}
 
 // The row of a first nibble.
 pub(crate) fn row_by(first: u32) -> Row

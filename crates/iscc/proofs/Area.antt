@@ -3,7 +3,9 @@ use Prim.Native.Nat.{ℕ, _+_, _≤_, _<_}
 use mathlib.Core.Path.{_≡_, refl, sym, _∙_, ap}
 use mathlib.Core.List.{List, [], _∷_, _++_}
 use native.Mathlib.Omega.{arith}
-use lib.ListN.{length, drop, set, length-append, length-drop}
+use native.Mathlib.Numerals.{add-one}
+use lib.ListN.{length, getD, take, drop, set, length-append, length-drop}
+use lib.Seq.{take-suc, take-all}
 use Rattle.iscc.specs.Answer.{accept, areaAfter}
 use Rattle.iscc.proofs.Text.{store-next}
 
@@ -35,3 +37,10 @@ length-written {p} {d} {area} {j} w =
 -- what a writer's contract says at the end
 pub all-written : {p d area : List ℕ} {j : ℕ} → Written p d area j → (j ≡ length p) × (area ≡ areaAfter (accept p) d)
 all-written {p} {d} {area} {j} w = (sym (w .count), w .is ∙ ap (λ (k : ℕ). p ++ drop k d) (sym (w .count)))
+
+-- a loop that copies: one byte more, and the end
+pub copied-next : (s d area : List ℕ) (i : ℕ) → i < length s → i < length d → Written (take i s) d area i → Written (take (i + 1) s) d (set area i (getD s i 0)) (i + 1)
+copied-next s d area i l r w = rw (add-one, take-suc s i 0, ← add-one) (one-written (getD s i 0) w r)
+
+pub copied-all : (s d area : List ℕ) (i n : ℕ) → i ≡ n → length s ≤ n → Written (take i s) d area i → area ≡ s ++ drop n d
+copied-all s d area i n e l w = w .is ∙ ap (λ (j : ℕ). take j s ++ drop j d) e ∙ ap (λ (p : List ℕ). p ++ drop n d) (take-all n s l)

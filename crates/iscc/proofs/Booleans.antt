@@ -6,9 +6,9 @@ use mathlib.Core.Bool.{Bool, true, false, _&&_, _||_, false≢true}
 pub true-false : {b : Bool} → b ≡ true → b ≡ false → ⊥
 true-false e f = false≢true (sym f ∙ e)
 
-pub and-true : (a c : Bool) → a && c ≡ true → (a ≡ true) × (c ≡ true)
-and-true true c e = (refl, e)
-and-true false c e = absurd (true-false e refl)
+pub both-true : (a c : Bool) → a && c ≡ true → (a ≡ true) × (c ≡ true)
+both-true true c e = (refl, e)
+both-true false c e = absurd (true-false e refl)
 
 pub and-swap : (a b c : Bool) → a && (b && c) ≡ b && (a && c)
 and-swap true b c = refl

@@ -1,7 +1,6 @@
 -- Demand 3: the texts that intake writes are equal exactly when the codes mean the same; the strict door takes exactly what
 -- intake writes back; each permitted meaning has one strict text, and intake writes it.
 -- Here it follows from two laws: what a text means is permitted, and the text of a permitted meaning has that meaning.
--- Assumes nothing.
 use Prim.Native.Nat.{ℕ, _≤_}
 use mathlib.Core.Path.{_≡_, refl, sym, _∙_, ap}
 use mathlib.Core.Logic.{_↔_}
@@ -18,10 +17,11 @@ use Rattle.iscc.specs.Meaning.{Meaning, Permitted}
 use Rattle.iscc.specs.Item.{Item, itemBytes, itemOf}
 use Rattle.iscc.specs.Alphabet.{encode}
 use Rattle.iscc.specs.Base32.{base32}
-use Rattle.iscc.specs.Items.{Reordered}
+use Rattle.iscc.specs.Lists.{Reordered}
+use Rattle.iscc.specs.Items.{readItems, joinedBytes, join}
 use Rattle.iscc.specs.Demands.{Demand3}
-use Rattle.iscc.proofs.Booleans.{and-true}
-use Rattle.iscc.proofs.Order.{means-same}
+use Rattle.iscc.proofs.Booleans.{both-true}
+use Rattle.iscc.proofs.Order.{means-same, joined-same}
 use Rattle.iscc.specs.Doors.{scheme, sameText, meaningOfText, codeOf, textOf, intake, writtenText, strict}
 use Rattle.iscc.proofs.Answer.{Accepted, accepted, value-of, passed, answered}
 
@@ -38,7 +38,7 @@ sameText-eq [] [] e = refl
 sameText-eq [] (d ∷ ds) e = cc
 sameText-eq (c ∷ cs) [] e = cc
 sameText-eq (c ∷ cs) (d ∷ ds) e =
-    let h : (eqb c d ≡ true) × (sameText cs ds ≡ true) = and-true (eqb c d) (sameText cs ds) e in
+    let h : (eqb c d ≡ true) × (sameText cs ds ≡ true) = both-true (eqb c d) (sameText cs ds) e in
     let p : c ≡ d = eqb-true c d (h .0) in
     let q : cs ≡ ds = sameText-eq cs ds (h .1) in
     cc
@@ -84,6 +84,10 @@ spelled m = refl
 reordered : (t u : List ℕ) (is js : List Item) (area : ℕ) → codeOf t ≡ accept is → codeOf u ≡ accept js → Reordered is js → intake t area ≡ intake u area
 unfolding intake meaningOfText
 reordered t u is js area e f r = rw (e, f, means-same r)
+
+join-reordered : (bs cs : List ℕ) (is js : List Item) (area : ℕ) → readItems bs ≡ accept is → readItems cs ≡ accept js → Reordered is js → join bs area ≡ join cs area
+unfolding joinedBytes
+join-reordered bs cs is js area e f r = rw (e, f, joined-same r)
 
 module _ (meant : (t : List ℕ) (m : Meaning) → meaningOfText t ≡ accept m → Permitted m)
     (back : (m : Meaning) → Permitted m → meaningOfText (textOf m) ≡ accept m)
@@ -133,4 +137,5 @@ module _ (meant : (t : List ℕ) (m : Meaning) → meaningOfText t ≡ accept m 
         spelling = spelled;
         short = λ t m e. (meant t m e, short m (meant t m e));
         anyOrder = reordered;
+        joinAnyOrder = join-reordered;
       }

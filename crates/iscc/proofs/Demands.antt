@@ -1,14 +1,13 @@
--- The user's demands hold of the definitions. Demand 3 is proved in Doors.antt. Assumes nothing.
+-- The user's demands hold of the definitions. Demand 3 is proved in Doors.antt.
 use Prim.Native.Nat.{ℕ, _≤_}
 use mathlib.Core.Path.{_≡_, refl, sym, _∙_, ap, subst}
 use mathlib.Core.Logic.{_⊎_, inl, inr}
 use mathlib.Core.Bool.{true}
-use mathlib.Core.Option.{Option}
-use mathlib.Core.List.{List, [], _∷_, _++_, map}
+use mathlib.Core.List.{List, _∷_, _++_, map}
 use native.Mathlib.Omega.{arith}
 use lib.ListN.{length, drop, length-append, length-drop}
 use lib.Seq.{take-append-seam, drop-append-seam}
-use lib.Dec.{leb}
+use lib.Dec.{leb, lit≤}
 use lib.IntN.{pos}
 use lib.Ieee.{binary32, ofInt, mul, eq}
 use borrow.Author.Tests.{leb-true}
@@ -18,13 +17,14 @@ use Rattle.iscc.specs.Digits.{Below}
 use Rattle.iscc.specs.Alphabet.{encode, decode}
 use Rattle.iscc.specs.Base32.{base32}
 use Rattle.iscc.specs.Header.{Header, rawHeader}
+use Rattle.iscc.specs.Lists.{All}
+use Rattle.iscc.specs.Permitted.{Set}
 use Rattle.iscc.specs.Meaning.{Meaning, unit, composite, Permitted}
 use Rattle.iscc.specs.Item.{Item, itemBytes, readItem, readOne, unitBytes, meaningOf, itemOf}
 use Rattle.iscc.specs.Items.{readItems, itemsBytes, unitsOf, joinedBytes, splitBytes}
 use Rattle.iscc.specs.Doors.{meaningOfText, textOf, codeBytes, readCode, writeText, intake}
-use Rattle.iscc.specs.Distance.{ratioOf}
-use Rattle.iscc.specs.Demands as demands
-use Rattle.iscc.specs.Demands.{Demand1, Demand2, UnitBack}
+use Rattle.iscc.specs.Distance.{Distance, bitsOf, comparedBits, distance, ratioOf}
+use Rattle.iscc.specs.Demands.{Demand1, Demand2, UnitBack, SplitBack}
 use Rattle.iscc.proofs.Answer.{never, accept-inj, passed, answered, accepted-value}
 use Rattle.iscc.proofs.ByteDigits.{from-to}
 use Rattle.iscc.proofs.Alphabet.{decode-encode, encode-decode}
@@ -34,8 +34,9 @@ use Rattle.iscc.proofs.Header.{read-header, header-read}
 use Rattle.iscc.proofs.Item.{PermittedItem, UnitWritten, read-item, item-read, unit-written, item-most}
 use Rattle.iscc.proofs.Meaning.{meaning-back, item-permitted, meant-item, item-back}
 use Rattle.iscc.proofs.Items.{AllPermitted, read-items, items-read}
-use Rattle.iscc.proofs.Split.{splits, one-read, join-makes}
-use Rattle.iscc.proofs.Distance.{bounded, exact-32, exact-64, exact-128, exact-256}
+use Rattle.iscc.proofs.Split.{units, units-types, units-subtypes, units-bodies, split-parts, split-read, split-joined, one-read, join-makes}
+use Rattle.iscc.proofs.Lists.{all-imp, all-map}
+use Rattle.iscc.proofs.Distance.{bounded, compared-shorter, shorter-bits, exact-power}
 use Rattle.iscc.proofs.Doors.{meant, short}
 use Rattle.iscc.proofs.Exactly.{exactly}
 use Rattle.iscc.proofs.HeaderTests.{header-by}
@@ -138,21 +139,23 @@ unit-back h body out rest k e =
     same : (out : List ℕ) (i : Item) → out ≡ itemBytes i → PermittedItem i → readItem (out ++ rest) ≡ accept (record { result = i; used = length out })
     same out i b p = rw b (read-item i rest p)
 
-items-permitted : (ms : List Meaning) → demands.AllPermitted ms → AllPermitted (map itemOf ms)
-items-permitted [] p = tt
-items-permitted (m ∷ ms) p = (item-permitted m (p .0), items-permitted ms (p .1))
+items-permitted : (ms : List Meaning) → All Permitted ms → AllPermitted (map itemOf ms)
+items-permitted ms p = all-map PermittedItem itemOf ms (all-imp Permitted item-permitted ms p)
 
 laid-rest : (m : Meaning) (ms : List Meaning) → itemsBytes (map itemOf (m ∷ ms)) ≡ itemBytes (itemOf m) ++ itemsBytes (map itemOf ms)
 unfolding itemsBytes
 laid-rest m ms = refl
 
-split-order : (s v : ℕ) (me se co : Option (List ℕ)) (da ins : List ℕ) (is : List Item) → Permitted (composite s v me se co da ins)
-    → unitsOf (composite s v me se co da ins) ≡ accept is
-    → (splitBytes (itemBytes (itemOf (composite s v me se co da ins))) ≡ accept (itemsBytes is)) × (readItems (itemsBytes is) ≡ accept is)
-unfolding unitsOf
-split-order s v me se co da ins is p e =
-    let w = splits s v me se co da ins p in
-    subst (λ (js : List Item). (splitBytes (itemBytes (itemOf (composite s v me se co da ins))) ≡ accept (itemsBytes js)) × (readItems (itemsBytes js) ≡ accept js)) (accept-inj e) (w .parts, w .read)
+split-order : (s v : ℕ) (u : Set) (bodies : List (List ℕ)) → Permitted (composite s v u bodies) → SplitBack s v u bodies
+split-order s v u bodies p =
+    record {
+      items = units s v u bodies p;
+      bytes = split-parts s v u bodies p;
+      read = split-read s v u bodies p;
+      mainTypes = units-types s v u bodies p;
+      subtypes = units-subtypes s v u bodies p;
+      bodiesIn = units-bodies s v u bodies p;
+    }
 
 -- what split writes is the units of a permitted composite, whose bytes were read
 split-join : (bs out : List ℕ) → Below 256 bs → splitBytes bs ≡ accept out → joinedBytes out ≡ accept bs
@@ -165,17 +168,22 @@ split-join bs out k e =
   where
     go : (m : Meaning) → Permitted m → itemBytes (itemOf m) ≡ bs → (is : List Item) → unitsOf m ≡ accept is → itemsBytes is ≡ out → joinedBytes out ≡ accept bs
     go (unit m s v body) p w is u q = absurd (never u)
-    go (composite s v me se co da ins) p w is u q =
-        let x = splits s v me se co da ins p in
-        let y : itemsBytes _ ≡ out = ap itemsBytes (accept-inj u) ∙ q in
-        ap joinedBytes (sym y) ∙ x .whole ∙ ap accept w
+    go (composite s v set bodies) p w is u q =
+        let y : itemsBytes (units s v set bodies p) ≡ out = ap itemsBytes (accept-inj u) ∙ q in
+        ap joinedBytes (sym y) ∙ split-joined s v set bodies p ∙ ap accept w
+
+shorter : (x y : List ℕ) (i j : Item) (r : Distance) → readOne x ≡ accept i → readOne y ≡ accept j → distance x y ≡ accept r
+    → (length (i .body) ≤ length (j .body) → r .n ≡ length (bitsOf (i .body))) × (length (j .body) ≤ length (i .body) → r .n ≡ length (bitsOf (j .body)))
+shorter x y i j r f g e =
+    let n : r .n ≡ comparedBits (i .body) (j .body) = shorter-bits x y i j r f g e in
+    (λ l. n ∙ compared-shorter (i .body) (j .body) l .0, λ l. n ∙ compared-shorter (j .body) (i .body) l .1)
 
 exact : (n : ℕ) → (n ≡ 32) ⊎ (n ≡ 64) ⊎ (n ≡ 128) ⊎ (n ≡ 256) → (d : ℕ) → d ≤ n
     → eq (mul binary32 (ratioOf d n) (ofInt binary32 (pos n))) (ofInt binary32 (pos d)) ≡ true
-exact n (inl e) d h = rw e (exact-32 d (rw e at h))
-exact n (inr (inl e)) d h = rw e (exact-64 d (rw e at h))
-exact n (inr (inr (inl e))) d h = rw e (exact-128 d (rw e at h))
-exact n (inr (inr (inr e))) d h = rw e (exact-256 d (rw e at h))
+exact n (inl e) d h = rw e (exact-power 5 d (lit≤ tt) (rw e at h))
+exact n (inr (inl e)) d h = rw e (exact-power 6 d (lit≤ tt) (rw e at h))
+exact n (inr (inr (inl e))) d h = rw e (exact-power 7 d (lit≤ tt) (rw e at h))
+exact n (inr (inr (inr e))) d h = rw e (exact-power 8 d (lit≤ tt) (rw e at h))
 
 pub demand2 : Demand2
 unfolding base32
@@ -187,7 +195,7 @@ demand2 =
       unitBack = unit-back;
       codeBack = λ m rest p. read-item (itemOf m) rest (item-permitted m p);
       codeMeans = meaning-back;
-      joinBack = λ bs out k e. let j = join-makes bs out k e in record { meaning = j .meaning; permitted = j .permitted; read = j .back; bytes = j .bytes };
+      joinBack = join-makes;
       base32Again = λ t bs e. encode-decode base32 sound32 t bs e .again;
       varnibbleAgain = λ ns g b e. varnibble-read ns g b e .again;
       headerAgain = λ bs g b e. header-read bs g b e .again;
@@ -202,6 +210,7 @@ demand2 =
       splitOrder = split-order;
       splitJoin = split-join;
       digitsBack = λ v p m bs b. from-to v p m bs b;
+      distanceShorter = shorter;
       distanceBounds = λ x y r e. let w = bounded x y r e in (w .apart, w .most);
       distanceExact = exact;
     }

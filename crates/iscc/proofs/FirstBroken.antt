@@ -13,7 +13,7 @@ use Rattle.iscc.specs.Lists.{every, pairwise, firstNot, firstClash}
 use Rattle.iscc.specs.Item.{Item}
 use Rattle.iscc.specs.Exactly.{Rule, rule, headHolds}
 use Rattle.iscc.specs.RefusalOrder.{clearAt}
-use Rattle.iscc.proofs.Booleans.{and-true, true-false}
+use Rattle.iscc.proofs.Booleans.{both-true, true-false}
 use Rattle.iscc.proofs.Lists.{clear, clear-all}
 use Rattle.iscc.proofs.Steps.{By, step}
 
@@ -38,8 +38,8 @@ module _ {A : Type 0} (p : A → Bool) where
   unfolding every
   every-holds [] e zero = refl
   every-holds [] e (suc j) = refl
-  every-holds (x ∷ xs) e zero = and-true (p x) (every p xs) e .0
-  every-holds (x ∷ xs) e (suc j) = every-holds xs (and-true (p x) (every p xs) e .1) j
+  every-holds (x ∷ xs) e zero = both-true (p x) (every p xs) e .0
+  every-holds (x ∷ xs) e (suc j) = every-holds xs (both-true (p x) (every p xs) e .1) j
 
   pub every-broken : (xs : List A) → every p xs ≡ false → FailsAt (λ j. headHolds p (drop j xs)) (firstNot p xs)
   unfolding every firstNot
@@ -64,9 +64,9 @@ module _ {A : Type 0} (r : A → A → Bool) where
   unfolding clear
   clear-holds before [] e zero = refl
   clear-holds before [] e (suc j) = refl
-  clear-holds before (x ∷ xs) e zero = first-in before xs x ∙ and-true (every (λ e. r e x) before) _ e .0
+  clear-holds before (x ∷ xs) e zero = first-in before xs x ∙ both-true (every (λ e. r e x) before) _ e .0
   clear-holds before (x ∷ xs) e (suc j) =
-      next-in before xs x j ∙ clear-holds (before ++ (x ∷ [])) xs (and-true (every (λ e. r e x) before) _ e .1) j
+      next-in before xs x j ∙ clear-holds (before ++ (x ∷ [])) xs (both-true (every (λ e. r e x) before) _ e .1) j
 
   clear-broken : (before xs : List A) → clear r before xs ≡ false → FailsAt (clearIn before xs) (firstClash r before xs)
   unfolding clear firstClash

@@ -9,7 +9,7 @@ use native.Mathlib.Omega.{arith}
 use lib.ListN.{length, getD, take, drop, length-append, length-drop}
 use lib.Seq.{drop-at, drop-drop, getD-append-seam, take-add}
 use lib.Dec.{eqb}
-use borrow.Author.Tests.{eq-eqb, le-leb, lt-ltb, eqb-true}
+use borrow.Author.Tests.{eq-eqb, le-leb, eqb-true}
 use Rattle.iscc.specs.Answer.{accept}
 use Rattle.iscc.specs.Digits.{Below}
 use Rattle.iscc.specs.Varnibble.{rowOf, varnibble, Parsed, writeVarnibble, readVarnibble}
@@ -17,7 +17,7 @@ use Rattle.iscc.specs.Header.{Header, nibbles, packed, headerBytes, rawH
 use Rattle.iscc.proofs.Booleans.{or-left, or-right, or-cases}
 use Rattle.iscc.proofs.Digits.{below-append, below-drop}
 use Rattle.iscc.proofs.Answer.{passed, answered, accept-inj}
-use Rattle.iscc.proofs.Varnibble.{parsed, length-varnibble, varnibble-below, read-varnibble, Back, varnibble-read}
+use Rattle.iscc.proofs.Varnibble.{parsed, length-varnibble, varnibble-below, row-is-1, read-varnibble, Back, varnibble-read}
 
 -- the pad nibble of an odd number of nibbles
 abbrev padOf : List ℕ → List ℕ
@@ -116,13 +116,9 @@ pub length-header : (h : Header) → length (headerBytes h) ≡ (rowOf (h .mainT
 unfolding headerBytes
 length-header h = length-packed (nibblesOf h) ∙ simp (length-append, length-varnibble)
 
-row-1 : (n : ℕ) → n < 8 → rowOf n ≡ 1
-unfolding rowOf
-row-1 n h = simp (lt-ltb n 8 h)
-
 -- four numbers below 8 are two bytes
 pub length-short : (h : Header) → h .mainType < 8 → h .subtype < 8 → h .version < 8 → h .lengthNo < 8 → length (headerBytes h) ≡ 2
-length-short h a b c d = length-header h ∙ rw (row-1 (h .mainType) a, row-1 (h .subtype) b, row-1 (h .version) c, row-1 (h .lengthNo) d)
+length-short h a b c d = length-header h ∙ rw (row-is-1 a, row-is-1 b, row-is-1 c, row-is-1 d)
 
 -- ---- what is read and written again is the same bytes
 

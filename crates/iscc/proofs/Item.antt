@@ -16,7 +16,7 @@ use Rattle.iscc.specs.Permitted.{MainType, number, mainTypeOf, isUnit, p
 use Rattle.iscc.specs.Meaning.{Sized}
 use Rattle.iscc.specs.Item.{Item, headerOf, itemWith, itemBytes, readItem, unitBytes}
 use Rattle.iscc.proofs.Answer.{passed, answered, accept-inj}
-use Rattle.iscc.proofs.Booleans.{and-true}
+use Rattle.iscc.proofs.Booleans.{both-true}
 use Rattle.iscc.proofs.Digits.{below-append, below-take, below-drop}
 use Rattle.iscc.proofs.Header.{Writable, read-header, header-below, length-short, header-read}
 use Rattle.iscc.proofs.Permitted.{mainTypeOf-number, mainTypeOf-back, number-small, Small, small, body-most}
@@ -158,5 +158,5 @@ unit-written h body out k e =
     let p = passed (isUnit (r .0) && permits (r .0) (h .subtype) (h .version) (h .lengthNo)) _ _ (r .2) in
     let q = passed (leb (length-of h body (r .0)) (length body)) _ _ (p .1) in
     subst (UnitWritten h body) (accept-inj (q .1))
-    (unit-made h body (r .0) k (mainTypeOf-back (h .mainType) (r .0) (r .1)) (and-true (isUnit (r .0)) _ (p .0) .1)
+    (unit-made h body (r .0) k (mainTypeOf-back (h .mainType) (r .0) (r .1)) (both-true (isUnit (r .0)) _ (p .0) .1)
     (leb-true (length-of h body (r .0)) (length body) (q .0)))

@@ -1,34 +1,33 @@
--- Items laid end to end, and the composite that a list makes. Assumes nothing.
-use Rattle.iscc.specs.Refusals.{Refusal}
+-- Items laid end to end, and the composite that a list makes.
 use Prim.Native.Nat.{ℕ, zero, suc, _≤_, _<_}
-use mathlib.Core.Path.{_≡_, refl, _∙_, ap, subst}
-use mathlib.Core.Bool.{Bool, true, false, cond, _&&_}
-use mathlib.Core.Option.{Option, none, some}
+use mathlib.Core.Path.{_≡_, refl, sym, _∙_, ap, subst}
+use mathlib.Core.Bool.{Bool, true, false, cond, _&&_, _||_, false≢true}
+use mathlib.Core.Option.{Option, some}
 use mathlib.Core.List.{List, [], _∷_, _++_, append-nil}
 use native.Mathlib.Nat.{not-suc-le-zero, le-of-suc-le-suc}
 use native.Mathlib.Omega.{arith}
-use lib.ListN.{length, drop, length-append, take-append-drop}
+use lib.ListN.{length, drop, length-append, length-map, take-append-drop}
 use lib.Seq.{drop-append-seam, take-all}
 use lib.Dec.{eqb, leb, lit≤}
-use borrow.Author.Tests.{le-leb, lt-leb, leb-true, eqb-true}
+use borrow.Author.Tests.{le-leb, lt-leb, leb-true, eqb-true, eq-eqb}
 use Rattle.iscc.specs.Answer.{Answer, accept, _>>=_}
 use Rattle.iscc.specs.Digits.{Below}
 use Rattle.iscc.specs.Varnibble.{Parsed}
-use Rattle.iscc.specs.Permitted.{MainType, META, SEMANTIC, CONTENT, DATA, INSTANCE, number, mainTypeOf, setNumber, compositeSubtype, row}
-use Rattle.iscc.specs.Meaning.{Meaning, composite, isIn, Sized, Eight, Permitted}
+use Rattle.iscc.specs.Permitted.{MainType, META, SEMANTIC, CONTENT, DATA, INSTANCE, number, mainTypeOf, Set, setNumber, unitTypes, compositeSubtype, row}
+use Rattle.iscc.specs.Meaning.{Meaning, composite, Sized, Permitted}
 use Rattle.iscc.specs.Item.{Item, itemBytes, readItem, meaningOf}
-use Rattle.iscc.specs.Lists.{every, pairwise}
-use Rattle.iscc.specs.Items.{readUpTo, readItems, sameType, joinable, is64Bits, otherType, sharedSubtype, bodyIn, subtypeIn, has, subtypeOf, requiredBody, compositeFrom, meaningOfItems, itemsBytes, orMissing}
+use Rattle.iscc.specs.Lists.{All, every, pairwise}
+use Rattle.iscc.specs.Items.{readUpTo, readItems, sameType, joinable, is64Bits, otherType, sharedSubtype, bodyIn, subtypeIn, isIn, bytesIn, has, setIn, bodiesIn, subtypeOf, compositeFrom, meaningOfItems, itemsBytes}
 use Rattle.iscc.proofs.Answer.{passed, answered, never, accept-inj}
-use Rattle.iscc.proofs.Booleans.{and-true}
+use Rattle.iscc.proofs.Booleans.{both-true}
 use Rattle.iscc.proofs.Digits.{below-drop}
-use Rattle.iscc.proofs.Permitted.{mainTypeOf-number}
+use Rattle.iscc.proofs.Lists.{all-map, all-both}
+use Rattle.iscc.proofs.Permitted.{mainTypeOf-number, types-count, types-all, subtype-by-set}
 use Rattle.iscc.proofs.Item.{PermittedItem, read-item, ReadItem, item-read, length-item}
 use Rattle.iscc.proofs.Meaning.{meant-item}
 
 abbrev pub AllPermitted : List Item → Type 0
-AllPermitted [] = Unit {0}
-AllPermitted (i ∷ is) = PermittedItem i × AllPermitted is
+AllPermitted is = All PermittedItem is
 
 -- ---- what is read is permitted, and laid end to end again it is the same bytes
 
@@ -82,62 +81,45 @@ sameType-eq a b e =
     let y : mainTypeOf (number b) ≡ accept b = mainTypeOf-number b in
     cc
 
--- the body that a list has of a main type is of eight bytes
-eight-in : (m : MainType) (is : List Item) → AllPermitted is → every is64Bits is ≡ true → Eight (bodyIn m is)
-unfolding bodyIn every
-eight-in m [] p e = tt
-eight-in m (i ∷ is) p e =
-    let q = and-true (is64Bits i) (every is64Bits is) e in
-    go (sameType m (i .mainType)) (eqb-true (length (i .body)) 8 (q .0), p .0 .body .1) (eight-in m is (p .1) (q .1))
-  where
-    go : (b : Bool) → Sized 8 (i .body) → Eight (bodyIn m is) → Eight (cond b (some (i .body)) (bodyIn m is))
-    go true x y = x
-    go false x y = y
+-- the first unit of a main type in a list, by its body and subtype: what holds of each item holds of it
+pub record Found (P : Item → Type 0) (m : MainType) (o : Option (List ℕ)) (s : ℕ) : Type 0 where
+  pub item : Item
+  pub holds : P item
+  pub named : m ≡ item .mainType
+  pub body : bytesIn o ≡ item .body
+  pub subtype : s ≡ item .subtype
 
--- the subtype that a list has of SEMANTIC or CONTENT is 0 to 4
-subtype-in : (m : MainType) → ((s l : ℕ) → row m s l ≡ true → s ≤ 4) → (is : List Item) → AllPermitted is → has m is ≡ true → subtypeIn m is ≤ 4
+pub found-in : (P : Item → Type 0) (m : MainType) (is : List Item) → All P is → has m is ≡ true → Found P m (bodyIn m is) (subtypeIn m is)
 unfolding bodyIn subtypeIn
-subtype-in m f [] p e = let z : _≡_ {A = ℕ} 0 1 = cc in absurd (omega arith)
-subtype-in m f (i ∷ is) p e = go (sameType m (i .mainType)) refl (λ h. subtype-in m f is (p .1) h) e
+found-in P m [] a h = absurd (false≢true h)
+found-in P m (i ∷ is) a h = go (sameType m (i .mainType)) refl (found-in P m is (a .1)) h
   where
-    go : (b : Bool) → sameType m (i .mainType) ≡ b → (has m is ≡ true → subtypeIn m is ≤ 4)
-        → isIn (cond b (some (i .body)) (bodyIn m is)) ≡ true → cond b (i .subtype) (subtypeIn m is) ≤ 4
-    go true s ih h =
-        let q : m ≡ i .mainType = sameType-eq m (i .mainType) s in
-        let r = and-true (eqb (i .version) 0) (row (i .mainType) (i .subtype) (i .lengthNo)) (p .0 .header) in
-        f (i .subtype) (i .lengthNo) (rw q (r .1))
-    go false s ih h = ih h
+    go : (b : Bool) → sameType m (i .mainType) ≡ b → (has m is ≡ true → Found P m (bodyIn m is) (subtypeIn m is))
+        → isIn (cond b (some (i .body)) (bodyIn m is)) ≡ true → Found P m (cond b (some (i .body)) (bodyIn m is)) (cond b (i .subtype) (subtypeIn m is))
+    go true e f h = record { item = i; holds = a .0; named = sameType-eq m (i .mainType) e; body = refl; subtype = refl }
+    go false e f h = f h
 
--- the subtype by the set: 5 with neither SEMANTIC nor CONTENT, 6 with META alone, and else theirs
-subtype-by-set : (a b c : Bool) (x y : ℕ) → (b ≡ true → x ≤ 4) → (c ≡ true → y ≤ 4)
-    → compositeSubtype (setNumber (record { meta = a; semantic = b; content = c })) (cond b x (cond c y (cond a 6 5))) ≡ true
-unfolding compositeSubtype
-subtype-by-set true true true x y f g = rw (le-leb x 4 (f refl))
-subtype-by-set true true false x y f g = rw (le-leb x 4 (f refl))
-subtype-by-set true false true x y f g = rw (le-leb y 4 (g refl))
-subtype-by-set true false false x y f g = refl
-subtype-by-set false true true x y f g = rw (le-leb x 4 (f refl))
-subtype-by-set false true false x y f g = rw (le-leb x 4 (f refl))
-subtype-by-set false false true x y f g = rw (le-leb y 4 (g refl))
-subtype-by-set false false false x y f g = refl
+-- its body is of eight bytes, and a SEMANTIC's or CONTENT's subtype is 0 to 4
+sized-in : (m : MainType) (is : List Item) → AllPermitted is → every is64Bits is ≡ true → has m is ≡ true → Sized 8 (bytesIn (bodyIn m is))
+sized-in m is p e h =
+    let r = found-in (λ i. PermittedItem i × (is64Bits i ≡ true)) m is (all-both PermittedItem is64Bits is p e) h in
+    rw (r .body) (eqb-true (length (r .item .body)) 8 (r .holds .1), r .holds .0 .body .1)
 
-most-4 : (s l : ℕ) → leb s 4 && leb l 7 ≡ true → s ≤ 4
-most-4 s l e = leb-true s 4 (and-true (leb s 4) (leb l 7) e .0)
+subtype-in : (m : MainType) → ((s l : ℕ) → row m s l ≡ leb s 4 && leb l 7) → (is : List Item) → AllPermitted is → has m is ≡ true → subtypeIn m is ≤ 4
+subtype-in m f is p h =
+    let r = found-in PermittedItem m is p h in
+    let s : ℕ = r .item .subtype in
+    let l : ℕ = r .item .lengthNo in
+    let e : row m s l ≡ true = ap (λ (k : MainType). row k s l) (r .named) ∙ both-true (eqb (r .item .version) 0) (row (r .item .mainType) s l) (r .holds .header) .1 in
+    rw (r .subtype) (leb-true s 4 (both-true (leb s 4) (leb l 7) (sym (f s l) ∙ e) .0))
 
-required : (r : Refusal) (o : Option (List ℕ)) (body : List ℕ) → orMissing r o ≡ accept body → o ≡ some body
-unfolding orMissing
-required r none body e = absurd (never e)
-required r (some x) body e = ap some (accept-inj e)
-
--- a list that makes a composite: its tests, and DATA's and INSTANCE's bodies
+-- a list that makes a composite: its tests
 pub record CompositeParts (is : List Item) (m : Meaning) : Type 0 where
-  pub dataBody : List ℕ
-  pub instanceBody : List ℕ
-  pub dataIn : bodyIn DATA is ≡ some dataBody
-  pub instanceIn : bodyIn INSTANCE is ≡ some instanceBody
+  pub dataIn : has DATA is ≡ true
+  pub instanceIn : has INSTANCE is ≡ true
   pub eight : every is64Bits is ≡ true
   pub shared : pairwise sharedSubtype is ≡ true
-  pub meaning : composite (subtypeOf is) 0 (bodyIn META is) (bodyIn SEMANTIC is) (bodyIn CONTENT is) dataBody instanceBody ≡ m
+  pub meaning : composite (subtypeOf is) 0 (setIn is) (bodiesIn (unitTypes (setIn is)) is) ≡ m
 
 pub compositeFrom-parts : (is : List Item) (m : Meaning) → compositeFrom is ≡ accept m → CompositeParts is m
 unfolding compositeFrom
@@ -145,35 +127,35 @@ compositeFrom-parts is m e =
     let e₁ = passed (every joinable is) _ _ e in
     let e₂ = passed (every is64Bits is) _ _ (e₁ .1) in
     let e₃ = passed (pairwise otherType is) _ _ (e₂ .1) in
-    let e₄ = answered (requiredBody DATA is) _ (e₃ .1) in
-    let e₅ = answered (requiredBody INSTANCE is) _ (e₄ .2) in
-    let e₆ = passed (pairwise sharedSubtype is) _ _ (e₅ .2) in
-    record {
-      dataBody = e₄ .0;
-      instanceBody = e₅ .0;
-      dataIn = required _ (bodyIn DATA is) (e₄ .0) (e₄ .1);
-      instanceIn = required _ (bodyIn INSTANCE is) (e₅ .0) (e₅ .1);
-      eight = e₂ .0;
-      shared = e₆ .0;
-      meaning = accept-inj (e₆ .1);
-    }
+    let e₄ = passed (has DATA is && has INSTANCE is) _ _ (e₃ .1) in
+    let e₅ = passed (pairwise sharedSubtype is) _ _ (e₄ .1) in
+    let d = both-true (has DATA is) (has INSTANCE is) (e₄ .0) in
+    record { dataIn = d .0; instanceIn = d .1; eight = e₂ .0; shared = e₅ .0; meaning = accept-inj (e₅ .1) }
+
+-- the subtype of a list is one that the rules allow for its set
+subtype-allowed : (u : Set) (x y : ℕ) → (u .semantic ≡ true → x ≤ 4) → (u .content ≡ true → y ≤ 4)
+    → compositeSubtype (setNumber u) (cond (u .semantic) x (cond (u .content) y (cond (u .meta) 6 5))) ≡ true
+subtype-allowed u x y f g = subtype-by-set _ u ∙ go (u .semantic) (u .content) f g
+  where
+    go : (b c : Bool) → (b ≡ true → x ≤ 4) → (c ≡ true → y ≤ 4)
+        → cond (b || c) (leb (cond b x (cond c y (cond (u .meta) 6 5))) 4) (eqb (cond b x (cond c y (cond (u .meta) 6 5))) (cond (u .meta) 6 5)) ≡ true
+    go true c f g = le-leb x 4 (f refl)
+    go false true f g = le-leb y 4 (g refl)
+    go false false f g = eq-eqb (cond (u .meta) 6 5) _ refl
 
 pub compositeFrom-permitted : (is : List Item) (m : Meaning) → AllPermitted is → compositeFrom is ≡ accept m → Permitted m
 unfolding subtypeOf row
 compositeFrom-permitted is m p e =
     let k : CompositeParts is m = compositeFrom-parts is m e in
+    let body : (t : MainType) → has t is ≡ true → Sized 8 (bytesIn (bodyIn t is)) = λ t. sized-in t is p (k .eight) in
     subst Permitted (k .meaning)
     (record {
-      subtype =
-          subtype-by-set (has META is) (has SEMANTIC is) (has CONTENT is) (subtypeIn SEMANTIC is) (subtypeIn CONTENT is)
-          (subtype-in SEMANTIC most-4 is p)
-          (subtype-in CONTENT most-4 is p);
+      subtype = subtype-allowed (setIn is) (subtypeIn SEMANTIC is) (subtypeIn CONTENT is) (subtype-in SEMANTIC (λ s l. refl) is p) (subtype-in CONTENT (λ s l. refl) is p);
       version = refl;
-      meta = eight-in META is p (k .eight);
-      semantic = eight-in SEMANTIC is p (k .eight);
-      content = eight-in CONTENT is p (k .eight);
-      dataBody = subst Eight (k .dataIn) (eight-in DATA is p (k .eight));
-      instanceBody = subst Eight (k .instanceIn) (eight-in INSTANCE is p (k .eight));
+      count = length-map (unitTypes (setIn is)) (λ t. bytesIn (bodyIn t is)) ∙ types-count (setIn is);
+      sized =
+          all-map (Sized 8) (λ t. bytesIn (bodyIn t is)) (unitTypes (setIn is))
+          (types-all (λ t. Sized 8 (bytesIn (bodyIn t is))) (setIn is) (body META) (body SEMANTIC) (body CONTENT) (body DATA (k .dataIn)) (body INSTANCE (k .instanceIn)));
     })
 
 pub means-permitted : (is : List Item) (m : Meaning) → AllPermitted is → meaningOfItems is ≡ accept m → Permitted m

@@ -9,6 +9,7 @@ pub mod Base32
 pub mod Varnibble
 pub mod Header
 pub mod Permitted
+pub mod Cut
 pub mod Item
 pub mod Meaning
 pub mod Items
@@ -18,10 +19,10 @@ pub mod Distance
 pub mod Bits
 pub mod Text
 pub mod Area
+pub mod Parts
 pub mod Demand3
 pub mod Doors
 pub mod Lists
-pub mod Parts
 pub mod Steps
 pub mod Stages
 pub mod Exactly

@@ -2,8 +2,8 @@
 use Prim.Native.Nat.{ℕ, _<_}
 use mathlib.Core.Path.{_≡_, refl, sym}
 use mathlib.Core.Logic.{inl}
-use mathlib.Core.Bool.{Bool, true, false, cond}
-use mathlib.Core.Option.{Option, none, some}
+use mathlib.Core.Bool.{Bool, true, false, cond, _&&_}
+use mathlib.Core.Option.{none, some}
 use mathlib.Core.List.{List, [], _∷_}
 use native.Mathlib.Nat.{not-suc-le-zero}
 use native.Mathlib.Decide.{ℕ-discrete}
@@ -12,12 +12,11 @@ use lib.ListN.{length}
 use lib.Dec.{eqb}
 use borrow.Author.Tests.{eq-eqb, ne-eqb}
 use Rattle.iscc.specs.Refusals.{notJoinable, not64Bits, mainTypeTwice, lacksDataOrInstance, subtypesDiffer}
-use Rattle.iscc.specs.Answer.{Answer, refuse, _>>=_}
+use Rattle.iscc.specs.Answer.{Answer, refuse, _>>_, _otherwise_}
 use Rattle.iscc.specs.Lists.{every}
 use Rattle.iscc.specs.Permitted.{MainType, META, SEMANTIC, CONTENT, DATA, INSTANCE, ISCC, ID, number}
-use Rattle.iscc.specs.Meaning.{isIn}
 use Rattle.iscc.specs.Item.{Item, meaningOf}
-use Rattle.iscc.specs.Items.{sameType, joinable, is64Bits, otherType, sharedSubtype, bodyIn, has, orMissing, compositeFrom, meaningOfItems, joinedMeaning}
+use Rattle.iscc.specs.Items.{sameType, joinable, is64Bits, otherType, sharedSubtype, bodyIn, isIn, has, compositeFrom, meaningOfItems, joinedMeaning}
 use Rattle.iscc.specs.Exactly.{Rule, rule}
 use Rattle.iscc.specs.RefusalOrder.{present, itemAt, listStages, meaningStages, joinStages}
 use Rattle.iscc.proofs.Booleans.{true-false}
@@ -52,14 +51,11 @@ lacks-instance : {A : Type 0} (ss : List (List Rule))
     → By {A = A} (rule lacksDataOrInstance (present true false) ∷ ss) (refuse lacksDataOrInstance)
 lacks-instance ss = refusing lacksDataOrInstance (number INSTANCE) _ ss ((λ j l. (present-data false j l, tt)), inl (refl, refl))
 
-step-lacks : {B : Type 0} (o p : Option (List ℕ)) (f : List ℕ → List ℕ → Answer B) (ss : List (List Rule))
-    → ((x y : List ℕ) → By ss (f x y))
-    → By (rule lacksDataOrInstance (present (isIn o) (isIn p)) ∷ ss)
-    (orMissing lacksDataOrInstance o >>= λ x. (orMissing lacksDataOrInstance p >>= λ y. f x y))
-unfolding orMissing
-step-lacks none p f ss y = lacks-data (isIn p) ss
-step-lacks (some a) none f ss y = lacks-instance ss
-step-lacks (some a) (some b) f ss y = holding _ ss (f a b) (λ j. (present-both j, tt)) (y a b)
+step-lacks : {B : Type 0} (a b : Bool) (x : Answer B) (ss : List (List Rule)) → By ss x
+    → By (rule lacksDataOrInstance (present a b) ∷ ss) ((a && b) otherwise lacksDataOrInstance >> x)
+step-lacks false b x ss y = lacks-data b ss
+step-lacks true false x ss y = lacks-instance ss
+step-lacks true true x ss y = holding _ ss x (λ j. (present-both j, tt)) y
 
 -- ---- two or more
 
@@ -69,7 +65,7 @@ composite-by is =
     step-every notJoinable _ _
     (step-every not64Bits _ _
     (step-pairs mainTypeTwice _ _
-    (step-lacks (bodyIn DATA is) (bodyIn INSTANCE is) _ _ (λ x y. step-pairs subtypesDiffer _ [] (done _) sharedSubtype is))
+    (step-lacks (has DATA is) (has INSTANCE is) _ _ (step-pairs subtypesDiffer _ [] (done _) sharedSubtype is))
     otherType is)
     is64Bits is)
     joinable is

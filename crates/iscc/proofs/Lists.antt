@@ -1,16 +1,16 @@
--- Lists tested element by element: every element, every pair, and one more element behind. Assumes nothing.
-use Prim.Native.Nat.{ℕ, suc}
+-- Lists tested element by element: every element, every pair, and one more element behind.
+use Prim.Native.Nat.{ℕ, zero, suc, _<_}
 use mathlib.Core.Path.{_≡_, refl, sym, _∙_, ap}
-use mathlib.Core.Bool.{Bool, true, false, cond, _&&_, and-true, and-assoc}
-use mathlib.Core.List.{List, [], _∷_, _++_, append-assoc, append-nil}
+use mathlib.Core.Bool.{Bool, true, false, cond, _&&_, _||_, and-true, and-assoc}
+use mathlib.Core.List.{List, [], _∷_, _++_, map, zipWith, append-assoc, append-nil}
 use native.Mathlib.Decide.{ℕ-discrete}
-use native.Mathlib.Nat.{suc-inj}
+use native.Mathlib.Nat.{suc-inj, not-suc-le-zero, le-of-suc-le-suc}
 use native.Mathlib.Omega.{arith}
-use lib.ListN.{length}
+use lib.ListN.{length, getD}
 use lib.Dec.{eqb}
 use borrow.Author.Tests.{eq-eqb, ne-eqb}
-use Rattle.iscc.specs.Lists.{every, pairwise, firstNot, firstClash}
-use Rattle.iscc.proofs.Booleans.{and-four}
+use Rattle.iscc.specs.Lists.{All, every, pairwise, firstNot, firstClash}
+use Rattle.iscc.proofs.Booleans.{both-true, and-four}
 
 pub every-append : {A : Type 0} (p : A → Bool) (xs : List A) (y : A) → every p (xs ++ (y ∷ [])) ≡ every p xs && p y
 unfolding every
@@ -31,6 +31,84 @@ pub every-true : {A : Type 0} (xs : List A) → every (λ _. true) xs ≡ true
 unfolding every
 every-true [] = refl
 every-true (x ∷ xs) = every-true xs
+
+pub every-all : {A : Type 0} (p : A → Bool) (xs : List A) → All (λ x. p x ≡ true) xs → every p xs ≡ true
+unfolding every
+every-all p [] a = refl
+every-all p (x ∷ xs) a = rw (a .0, every-all p xs (a .1))
+
+pub every-map : {A B : Type 0} (f : A → B) (p : B → Bool) (xs : List A) → every p (map f xs) ≡ every (λ x. p (f x)) xs
+unfolding every
+every-map f p [] = refl
+every-map f p (x ∷ xs) = rw (every-map f p xs)
+
+pub pairwise-map : {A B : Type 0} (f : A → B) (r : B → B → Bool) (xs : List A) → pairwise r (map f xs) ≡ pairwise (λ x y. r (f x) (f y)) xs
+unfolding pairwise
+pairwise-map f r [] = refl
+pairwise-map f r (x ∷ xs) = rw (every-map f (r (f x)) xs, pairwise-map f r xs)
+
+-- ---- what holds of every element
+
+module _ {A : Type 0} (P : A → Type 0) where
+  pub all-append : (xs ys : List A) → All P xs → All P ys → All P (xs ++ ys)
+  all-append [] ys a b = b
+  all-append (x ∷ xs) ys a b = (a .0, all-append xs ys (a .1) b)
+
+  pub all-imp : {Q : A → Type 0} → ((x : A) → P x → Q x) → (xs : List A) → All P xs → All Q xs
+  all-imp f [] a = tt
+  all-imp f (x ∷ xs) a = (f x (a .0), all-imp f xs (a .1))
+
+  pub all-both : (p : A → Bool) (xs : List A) → All P xs → every p xs ≡ true → All (λ x. P x × (p x ≡ true)) xs
+  unfolding every
+  all-both p [] a e = tt
+  all-both p (x ∷ xs) a e = let w = both-true (p x) (every p xs) e in ((a .0, w .0), all-both p xs (a .1) (w .1))
+
+  pub all-at : (xs : List A) (i : ℕ) (d : A) → All P xs → i < length xs → P (getD xs i d)
+  all-at [] i d a h = absurd (not-suc-le-zero h)
+  all-at (x ∷ xs) zero d a h = a .0
+  all-at (x ∷ xs) (suc i) d a h = all-at xs i d (a .1) (le-of-suc-le-suc h)
+
+pub all-map : {A B : Type 0} (P : B → Type 0) (f : A → B) (xs : List A) → All (λ x. P (f x)) xs → All P (map f xs)
+all-map P f [] a = tt
+all-map P f (x ∷ xs) a = (a .0, all-map P f xs (a .1))
+
+pub map-at : {A B : Type 0} (f : A → B) (xs : List A) (i : ℕ) (d : A) (e : B) → i < length xs → getD (map f xs) i e ≡ f (getD xs i d)
+map-at f [] i d e h = absurd (not-suc-le-zero h)
+map-at f (x ∷ xs) zero d e h = refl
+map-at f (x ∷ xs) (suc i) d e h = map-at f xs i d e (le-of-suc-le-suc h)
+
+-- ---- two lists side by side, one as long as the other
+
+module _ {A B C : Type 0} (f : A → B → C) where
+  pub all-zip : (P : A → Type 0) (Q : B → Type 0) (R : C → Type 0) → ((x : A) (y : B) → P x → Q y → R (f x y))
+      → (xs : List A) (ys : List B) → All P xs → All Q ys → All R (zipWith f xs ys)
+  unfolding zipWith
+  all-zip P Q R g [] ys a b = tt
+  all-zip P Q R g (x ∷ xs) [] a b = tt
+  all-zip P Q R g (x ∷ xs) (y ∷ ys) a b = (g x y (a .0) (b .0), all-zip P Q R g xs ys (a .1) (b .1))
+
+  pub zip-at : (xs : List A) (ys : List B) (i : ℕ) (a : A) (b : B) (c : C) → i < length xs → i < length ys → getD (zipWith f xs ys) i c ≡ f (getD xs i a) (getD ys i b)
+  unfolding zipWith
+  zip-at [] ys i a b c h l = absurd (not-suc-le-zero h)
+  zip-at (x ∷ xs) [] i a b c h l = absurd (not-suc-le-zero l)
+  zip-at (x ∷ xs) (y ∷ ys) zero a b c h l = refl
+  zip-at (x ∷ xs) (y ∷ ys) (suc i) a b c h l = zip-at xs ys i a b c (le-of-suc-le-suc h) (le-of-suc-le-suc l)
+
+  module _ {D : Type 0} (g : C → D) where
+    pub map-zip-left : (h : A → D) → ((x : A) (y : B) → g (f x y) ≡ h x) → (xs : List A) (ys : List B) → length xs ≡ length ys → map g (zipWith f xs ys) ≡ map h xs
+    unfolding zipWith
+    map-zip-left h e [] ys l = refl
+    map-zip-left h e (x ∷ xs) [] l = absurd (omega (arith, l))
+    map-zip-left h e (x ∷ xs) (y ∷ ys) l = rw (e x y, map-zip-left h e xs ys (suc-inj l))
+
+    pub map-zip-right : (h : B → D) → ((x : A) (y : B) → g (f x y) ≡ h y) → (xs : List A) (ys : List B) → length xs ≡ length ys → map g (zipWith f xs ys) ≡ map h ys
+    unfolding zipWith
+    map-zip-right h e [] [] l = refl
+    map-zip-right h e [] (y ∷ ys) l = absurd (omega (arith, l))
+    map-zip-right h e (x ∷ xs) [] l = absurd (omega (arith, l))
+    map-zip-right h e (x ∷ xs) (y ∷ ys) l = rw (e x y, map-zip-right h e xs ys (suc-inj l))
+
+-- ---- every element and every pair
 
 module _ {A : Type 0} (r : A → A → Bool) where
   -- each goes with those before it, and with what stands in front

@@ -1,27 +1,44 @@
--- The laws of permitted headers. Assumes nothing.
+-- The laws of permitted headers, and of the eight sets.
 use Prim.Native.Nat.{ℕ, _≤_, _<_}
 use mathlib.Core.Path.{_≡_, refl, sym, _∙_, ap}
-use mathlib.Core.Bool.{Bool, true, false, cond}
+use mathlib.Core.Bool.{Bool, true, false, cond, not, _&&_, _||_}
+use mathlib.Core.List.{List, _++_}
 use native.Mathlib.Omega.{arith}
-use lib.ListN.{List·getD-eq-default}
+use lib.ListN.{length, List·getD-eq-default}
 use lib.Dec.{eqb, leb, ltb, lit≤}
-use borrow.Author.Tests.{eqb-true, leb-true, ltb-true, le-leb, eq-eqb}
+use borrow.Author.Tests.{eqb-true, leb-true, ltb-true, lt-ltb, le-leb, eq-eqb}
 use Rattle.iscc.specs.Answer.{accept}
-use Rattle.iscc.specs.Permitted.{MainType, META, SEMANTIC, CONTENT, DATA, INSTANCE, ISCC, ID, number, isUnit, typeOf, mainTypeOf, Set, sets, setOf, setNumber, weight, unitCount, compositeSubtype, row, permits, bodyBytes}
+use Rattle.iscc.specs.Lists.{All, every, pairwise}
+use Rattle.iscc.specs.Permitted.{MainType, META, SEMANTIC, CONTENT, DATA, INSTANCE, ISCC, ID, number, isUnit, typeOf, mainTypeOf, Set, sets, setOf, setNumber, weight, unitCount, only, unitTypes, compositeSubtype, row, permits, bodyBytes}
 use Rattle.iscc.specs.Item.{lengthNoOf}
+use Rattle.iscc.specs.Items.{sameType}
 use Rattle.iscc.proofs.Answer.{accept-inj, passed}
-use Rattle.iscc.proofs.Booleans.{and-true}
+use Rattle.iscc.proofs.Booleans.{both-true}
 use Rattle.iscc.proofs.Table.{upTo, at}
+use Rattle.iscc.proofs.Lists.{all-append}
+
+pub number-small : (m : MainType) → number m ≤ 6
+number-small META = lit≤ tt
+number-small SEMANTIC = lit≤ tt
+number-small CONTENT = lit≤ tt
+number-small DATA = lit≤ tt
+number-small INSTANCE = lit≤ tt
+number-small ISCC = lit≤ tt
+number-small ID = lit≤ tt
+
+pub type-number : (m : MainType) → typeOf (number m) ≡ m
+unfolding typeOf
+type-number META = refl
+type-number SEMANTIC = refl
+type-number CONTENT = refl
+type-number DATA = refl
+type-number INSTANCE = refl
+type-number ISCC = refl
+type-number ID = refl
 
 pub mainTypeOf-number : (m : MainType) → mainTypeOf (number m) ≡ accept m
-unfolding mainTypeOf typeOf
-mainTypeOf-number META = refl
-mainTypeOf-number SEMANTIC = refl
-mainTypeOf-number CONTENT = refl
-mainTypeOf-number DATA = refl
-mainTypeOf-number INSTANCE = refl
-mainTypeOf-number ISCC = refl
-mainTypeOf-number ID = refl
+unfolding mainTypeOf
+mainTypeOf-number m = rw (lt-ltb (number m) 7 (omega (arith, number-small m)), type-number m)
 
 pub number-type : (n : ℕ) → n < 7 → number (typeOf n) ≡ n
 unfolding typeOf upTo
@@ -42,15 +59,6 @@ unit-or-composite P f g DATA = f DATA refl
 unit-or-composite P f g INSTANCE = f INSTANCE refl
 unit-or-composite P f g ISCC = g
 unit-or-composite P f g ID = f ID refl
-
-pub number-small : (m : MainType) → number m ≤ 6
-number-small META = lit≤ tt
-number-small SEMANTIC = lit≤ tt
-number-small CONTENT = lit≤ tt
-number-small DATA = lit≤ tt
-number-small INSTANCE = lit≤ tt
-number-small ISCC = lit≤ tt
-number-small ID = lit≤ tt
 
 -- a permitted header's numbers
 pub record Small (s v l : ℕ) : Type 0 where
@@ -73,21 +81,21 @@ subtype-small l s e =
 
 row-small : (m : MainType) (s l : ℕ) → row m s l ≡ true → (s ≤ 7) × (l ≤ 7)
 unfolding row
-row-small META s l e = let p = and-true (eqb s 0) (leb l 7) e in let a : s ≡ 0 = eqb-true s 0 (p .0) in (omega arith, leb-true l 7 (p .1))
-row-small SEMANTIC s l e = let p = and-true (leb s 4) (leb l 7) e in let a : s ≤ 4 = leb-true s 4 (p .0) in (omega arith, leb-true l 7 (p .1))
-row-small CONTENT s l e = let p = and-true (leb s 4) (leb l 7) e in let a : s ≤ 4 = leb-true s 4 (p .0) in (omega arith, leb-true l 7 (p .1))
-row-small DATA s l e = let p = and-true (eqb s 0) (leb l 7) e in let a : s ≡ 0 = eqb-true s 0 (p .0) in (omega arith, leb-true l 7 (p .1))
-row-small INSTANCE s l e = let p = and-true (eqb s 0) (leb l 7) e in let a : s ≡ 0 = eqb-true s 0 (p .0) in (omega arith, leb-true l 7 (p .1))
-row-small ISCC s l e = let p = and-true (compositeSubtype l s) (leb l 7) e in (let a : s ≤ 6 = subtype-small l s (p .0) in omega arith, leb-true l 7 (p .1))
+row-small META s l e = let p = both-true (eqb s 0) (leb l 7) e in let a : s ≡ 0 = eqb-true s 0 (p .0) in (omega arith, leb-true l 7 (p .1))
+row-small SEMANTIC s l e = let p = both-true (leb s 4) (leb l 7) e in let a : s ≤ 4 = leb-true s 4 (p .0) in (omega arith, leb-true l 7 (p .1))
+row-small CONTENT s l e = let p = both-true (leb s 4) (leb l 7) e in let a : s ≤ 4 = leb-true s 4 (p .0) in (omega arith, leb-true l 7 (p .1))
+row-small DATA s l e = let p = both-true (eqb s 0) (leb l 7) e in let a : s ≡ 0 = eqb-true s 0 (p .0) in (omega arith, leb-true l 7 (p .1))
+row-small INSTANCE s l e = let p = both-true (eqb s 0) (leb l 7) e in let a : s ≡ 0 = eqb-true s 0 (p .0) in (omega arith, leb-true l 7 (p .1))
+row-small ISCC s l e = let p = both-true (compositeSubtype l s) (leb l 7) e in (let a : s ≤ 6 = subtype-small l s (p .0) in omega arith, leb-true l 7 (p .1))
 row-small ID s l e =
-    let p = and-true (leb s 5) (leb l 4) e in
+    let p = both-true (leb s 5) (leb l 4) e in
     let a : s ≤ 5 = leb-true s 5 (p .0) in
     let b : l ≤ 4 = leb-true l 4 (p .1) in
     (omega arith, omega arith)
 
 pub small : (m : MainType) (s v l : ℕ) → permits m s v l ≡ true → Small s v l
 small m s v l e =
-    let p = and-true (eqb v 0) (row m s l) e in
+    let p = both-true (eqb v 0) (row m s l) e in
     let r = row-small m s l (p .1) in
     record { subtype = r .0; version = eqb-true v 0 (p .0); lengthNo = r .1 }
 
@@ -102,17 +110,25 @@ lengthNo-back INSTANCE s l u = omega arith
 lengthNo-back ISCC s l u = cc
 lengthNo-back ID s l u = omega arith
 
--- a set comes back from its number
-pub set-back : (a b c : Bool) → setOf (setNumber (record { meta = a; semantic = b; content = c })) ≡ record { meta = a; semantic = b; content = c }
+-- what holds of each of the eight sets holds of any
+each-set {ℓ} : (P : Set → Type ℓ) → P (setOf 0) → P (setOf 1) → P (setOf 2) → P (setOf 3) → P (setOf 4) → P (setOf 5) → P (setOf 6) → P (setOf 7) → (u : Set) → P u
 unfolding setOf sets
-set-back false false false = refl
-set-back false false true = refl
-set-back false true false = refl
-set-back false true true = refl
-set-back true false false = refl
-set-back true false true = refl
-set-back true true false = refl
-set-back true true true = refl
+each-set P p₀ p₁ p₂ p₃ p₄ p₅ p₆ p₇ u = go (u .meta) (u .semantic) (u .content)
+  where
+    go : (a b c : Bool) → P (record { meta = a; semantic = b; content = c })
+    go false false false = p₀
+    go false false true = p₁
+    go false true false = p₂
+    go false true true = p₃
+    go true false false = p₄
+    go true false true = p₅
+    go true true false = p₆
+    go true true true = p₇
+
+-- a set comes back from its number
+pub set-back : (u : Set) → setOf (setNumber u) ≡ u
+unfolding setOf sets
+set-back = each-set _ refl refl refl refl refl refl refl refl
 
 -- a length number comes back from its set
 pub number-back : (l : ℕ) → l ≤ 7 → setNumber (setOf l) ≡ l
@@ -141,27 +157,63 @@ body-most INSTANCE s v l p = let h : Small s v l = small INSTANCE s v l p in ome
 body-most ISCC s v l p = let h : unitCount (setOf l) ≤ 5 = count-most (setOf l) in omega arith
 body-most ID s v l p = let h : Small s v l = small ID s v l p in omega arith
 
-pub set-small : (a b c : Bool) → setNumber (record { meta = a; semantic = b; content = c }) ≤ 7
-set-small false false false = lit≤ tt
-set-small false false true = lit≤ tt
-set-small false true false = lit≤ tt
-set-small false true true = lit≤ tt
-set-small true false false = lit≤ tt
-set-small true false true = lit≤ tt
-set-small true true false = lit≤ tt
-set-small true true true = lit≤ tt
+pub set-small : (u : Set) → setNumber u ≤ 7
+unfolding setOf sets
+set-small = each-set _ (lit≤ tt) (lit≤ tt) (lit≤ tt) (lit≤ tt) (lit≤ tt) (lit≤ tt) (lit≤ tt) (lit≤ tt)
 
 -- the table's row of a composite, by its set
-pub composite-permits : (s v : ℕ) (a b c : Bool) → v ≡ 0 → compositeSubtype (setNumber (record { meta = a; semantic = b; content = c })) s ≡ true
-    → permits ISCC s v (setNumber (record { meta = a; semantic = b; content = c })) ≡ true
+pub composite-permits : (s v : ℕ) (u : Set) → v ≡ 0 → compositeSubtype (setNumber u) s ≡ true → permits ISCC s v (setNumber u) ≡ true
 unfolding row
-composite-permits s v a b c z e = rw (eq-eqb v 0 z, e) (le-leb _ 7 (set-small a b c))
+composite-permits s v u z e = rw (eq-eqb v 0 z, e) (le-leb _ 7 (set-small u))
 
 pub permits-composite : (s v l : ℕ) → permits ISCC s v l ≡ true → compositeSubtype l s ≡ true
 unfolding row
-permits-composite s v l e = and-true (compositeSubtype l s) (leb l 7) (and-true (eqb v 0) (row ISCC s l) e .1) .0
+permits-composite s v l e = both-true (compositeSubtype l s) (leb l 7) (both-true (eqb v 0) (row ISCC s l) e .1) .0
+
+-- the subtype by the set: 5 with neither SEMANTIC nor CONTENT, 6 with META alone, and else 0 to 4
+pub subtype-by-set : (s : ℕ) (u : Set) → compositeSubtype (setNumber u) s ≡ cond (u .semantic || u .content) (leb s 4) (eqb s (cond (u .meta) 6 5))
+unfolding compositeSubtype setOf sets
+subtype-by-set s = each-set _ refl refl refl refl refl refl refl refl
+
+pub subtype-low : (s : ℕ) (u : Set) → compositeSubtype (setNumber u) s ≡ true → (u .semantic || u .content) ≡ true → s ≤ 4
+subtype-low s u e h = leb-true s 4 (rw h at (sym (subtype-by-set s u) ∙ e))
+
+pub subtype-fixed : (s : ℕ) (u : Set) → compositeSubtype (setNumber u) s ≡ true → (u .semantic || u .content) ≡ false → s ≡ cond (u .meta) 6 5
+subtype-fixed s u e h = eqb-true s (cond (u .meta) 6 5) (rw h at (sym (subtype-by-set s u) ∙ e))
 
 -- a number that is no length number has the set of 0
 pub set-past : (l : ℕ) → 8 ≤ l → setOf l ≡ setOf 0
 unfolding setOf sets
 set-past l h = List·getD-eq-default sets _ h
+
+-- ---- the units in a set
+
+pub types-count : (u : Set) → length (unitTypes u) ≡ unitCount u
+unfolding unitTypes setOf sets
+types-count = each-set _ refl refl refl refl refl refl refl refl
+
+all-only : (P : MainType → Type 0) (b : Bool) (m : MainType) → (b ≡ true → P m) → All P (only b m)
+all-only P true m f = (f refl, tt)
+all-only P false m f = tt
+
+-- what holds of those that may be in, where they are, and of DATA and INSTANCE, holds of all that are in
+pub types-all : (P : MainType → Type 0) (u : Set) → (u .meta ≡ true → P META) → (u .semantic ≡ true → P SEMANTIC) → (u .content ≡ true → P CONTENT)
+    → P DATA → P INSTANCE → All P (unitTypes u)
+unfolding unitTypes
+types-all P u f g h d i =
+    let a : All P (only (u .meta) META ++ only (u .semantic) SEMANTIC) = all-append P (only (u .meta) META) _ (all-only P (u .meta) META f) (all-only P (u .semantic) SEMANTIC g) in
+    all-append P (only (u .meta) META ++ only (u .semantic) SEMANTIC ++ only (u .content) CONTENT) _
+    (all-append P (only (u .meta) META ++ only (u .semantic) SEMANTIC) _ a (all-only P (u .content) CONTENT h)) (d, (i, tt))
+
+-- a main type stands in a list
+abbrev pub among : MainType → List MainType → Bool
+among m ms = not (every (λ k. not (sameType m k)) ms)
+
+-- the set comes back from its units, which have DATA and INSTANCE, and no main type twice
+pub types-set : (u : Set) → record { meta = among META (unitTypes u); semantic = among SEMANTIC (unitTypes u); content = among CONTENT (unitTypes u) } ≡ u
+unfolding unitTypes setOf sets every
+types-set = each-set _ refl refl refl refl refl refl refl refl
+
+pub types-whole : (u : Set) → (among DATA (unitTypes u) && among INSTANCE (unitTypes u)) && pairwise (λ m k. not (sameType m k)) (unitTypes u) ≡ true
+unfolding unitTypes setOf sets every pairwise
+types-whole = each-set _ refl refl refl refl refl refl refl refl

@@ -1,31 +1,32 @@
--- A composite split into its units, and joined again. Assumes nothing.
-use Prim.Native.Nat.{ℕ, _≤_, _<_}
-use mathlib.Core.Path.{_≡_, refl, sym, _∙_, ap, subst}
-use mathlib.Core.Bool.{Bool, true, false, cond, _&&_, false≢true}
-use mathlib.Core.Option.{Option, none, some}
-use mathlib.Core.List.{List, [], _∷_, _++_, append-nil, append-assoc}
-use native.Mathlib.Nat.{le-refl, not-suc-le-zero}
+-- A composite split into its units, and joined again.
+use Prim.Native.Nat.{ℕ, _≤_}
+use mathlib.Core.Path.{_≡_, refl, sym, _∙_, ap, ap₂, subst}
+use mathlib.Core.Bool.{Bool, true, false, cond, not, _&&_, _||_, or-true}
+use mathlib.Core.Option.{some}
+use mathlib.Core.List.{List, [], _∷_, map, zipWith, map-id, append-nil}
+use native.Mathlib.Nat.{le-refl}
 use native.Mathlib.Omega.{arith}
-use lib.ListN.{length, length-append}
-use lib.Dec.{leb}
-use borrow.Author.Tests.{le-leb, leb-true, eqb-true, eq-eqb}
-use Rattle.iscc.specs.Answer.{accept, refuse}
-use Rattle.iscc.specs.Digits.{Below}
-use Rattle.iscc.specs.Permitted.{MainType, META, SEMANTIC, CONTENT, DATA, INSTANCE, setNumber, compositeSubtype, row, bodyBytes}
-use Rattle.iscc.specs.Meaning.{Meaning, composite, isIn, Sized, Eight, Permitted}
-use Rattle.iscc.specs.Item.{Item, itemBytes, readItem, readOne, itemOf}
-use Rattle.iscc.specs.Lists.{every, pairwise}
-use Rattle.iscc.specs.Items.{readItems, joinable, bodyIn, subtypeIn, subtypeOf, compositeFrom, joinedMeaning, joinedBytes, unit64, unitIn, unitsOf, itemsBytes, splitBytes, orMissing}
-use Rattle.iscc.proofs.Item.{PermittedItem, read-item, ReadItem, item-read}
-use Rattle.iscc.proofs.Answer.{passed, answered, accept-inj, never}
-use Rattle.iscc.specs.Refusals.{lacksDataOrInstance}
+use lib.ListN.{length, length-map}
 use lib.Seq.{take-all}
+use lib.Dec.{eqb, leb}
+use borrow.Author.Tests.{le-leb, leb-true, eq-eqb, not-true}
+use Rattle.iscc.specs.Answer.{accept, refuse}
+use Rattle.iscc.specs.Refusals.{lacksDataOrInstance}
+use Rattle.iscc.specs.Digits.{Below}
+use Rattle.iscc.specs.Lists.{All, every, pairwise}
+use Rattle.iscc.specs.Permitted.{MainType, META, SEMANTIC, CONTENT, DATA, INSTANCE, number, Set, unitTypes, unitCount, row, bodyBytes}
+use Rattle.iscc.specs.Meaning.{Meaning, composite, Sized, Permitted}
+use Rattle.iscc.specs.Item.{Item, itemBytes, readItem, readOne, itemOf}
+use Rattle.iscc.specs.Items.{readItems, sameType, joinable, is64Bits, otherType, takesSubtype, hasSubtype, sharedSubtype, bodyIn, subtypeIn, isIn, has, setIn, bodiesIn, subtypeOf, compositeFrom, joinedMeaning, joinedBytes, unitWith, unitsOf, itemsBytes, splitBytes}
+use Rattle.iscc.specs.Demands.{JoinBack}
+use Rattle.iscc.proofs.Answer.{passed, answered, accept-inj, never}
+use Rattle.iscc.proofs.Booleans.{both-true}
+use Rattle.iscc.proofs.Lists.{every-all, pairwise-map, all-imp, all-zip, map-zip-left, map-zip-right}
+use Rattle.iscc.proofs.Permitted.{subtype-low, subtype-fixed, types-count, types-all, among, types-set, types-whole}
+use Rattle.iscc.proofs.Item.{PermittedItem, read-item, ReadItem, item-read}
 use Rattle.iscc.proofs.Meaning.{meaning-back, item-permitted}
-use Rattle.iscc.proofs.Items.{AllPermitted, two-or-more, read-items, items-read, compositeFrom-permitted}
-
--- the units of a composite
-abbrev pub unitsIn : ℕ → Option (List ℕ) → Option (List ℕ) → Option (List ℕ) → List ℕ → List ℕ → List Item
-unitsIn s me se co da ins = unitIn META 0 me ++ unitIn SEMANTIC s se ++ unitIn CONTENT s co ++ (unit64 DATA 0 da ∷ unit64 INSTANCE 0 ins ∷ [])
+use Rattle.iscc.proofs.Items.{AllPermitted, two-or-more, read-items, items-read, found-in, compositeFrom-permitted}
+use Rattle.iscc.proofs.Order.{eqb-comm}
 
 -- ---- exactly one item reads back
 
@@ -35,102 +36,172 @@ read-one i p =
     let e : readItem (itemBytes i) ≡ accept (record { result = i; used = length (itemBytes i) }) = ap readItem (sym (append-nil (itemBytes i))) ∙ read-item i [] p in
     rw (e, le-leb (length (itemBytes i)) (length (itemBytes i)) (le-refl (length (itemBytes i))))
 
--- ---- a composite's units are permitted
+-- ---- units by their main types and bodies
 
-of-eight : (m : MainType) (s : ℕ) (body : List ℕ) → row m s 1 ≡ true → bodyBytes m s 1 ≡ 8 → Sized 8 body → PermittedItem (unit64 m s body)
-of-eight m s body r b z = record { header = r; body = (rw b (z .0), z .1) }
+-- a main type stands in a list of items if it is among theirs
+has-among : (m : MainType) (is : List Item) → has m is ≡ among m (map (λ i. i .mainType) is)
+unfolding bodyIn every
+has-among m [] = refl
+has-among m (i ∷ is) = go (sameType m (i .mainType)) (has-among m is)
+  where
+    go : (b : Bool) → has m is ≡ among m (map (λ i. i .mainType) is)
+        → isIn (cond b (some (i .body)) (bodyIn m is)) ≡ not (not b && every (λ k. not (sameType m k)) (map (λ i. i .mainType) is))
+    go true ih = refl
+    go false ih = ih
 
-in-front : (m : MainType) (s : ℕ) (o : Option (List ℕ)) (is : List Item) → ((body : List ℕ) → o ≡ some body → Sized 8 body → PermittedItem (unit64 m s body))
-    → Eight o → AllPermitted is → AllPermitted (unitIn m s o ++ is)
-in-front m s none is f e p = p
-in-front m s (some body) is f e p = (f body refl e, p)
+-- with no main type twice, the bodies of the items' main types are the items' bodies
+bodies-behind : (i : Item) (is js : List Item) → every (otherType i) js ≡ true → bodiesIn (map (λ j. j .mainType) js) (i ∷ is) ≡ bodiesIn (map (λ j. j .mainType) js) is
+unfolding bodyIn every
+bodies-behind i is [] e = refl
+bodies-behind i is (j ∷ js) e =
+    let w = both-true (otherType i j) (every (otherType i) js) e in
+    let n : sameType (j .mainType) (i .mainType) ≡ false = eqb-comm (number (j .mainType)) (number (i .mainType)) ∙ not-true (sameType (i .mainType) (j .mainType)) (w .0) in
+    rw (n, bodies-behind i is js (w .1))
 
--- the subtype that the rules give for the set
-pub record SubtypeIs (a b c : Bool) (s : ℕ) : Type 0 where
-  pub semantic : b ≡ true → s ≤ 4
-  pub content : c ≡ true → s ≤ 4
-  pub is : s ≡ cond b s (cond c s (cond a 6 5))
+bodies-back : (is : List Item) → pairwise otherType is ≡ true → bodiesIn (map (λ i. i .mainType) is) is ≡ map (λ i. i .body) is
+unfolding bodyIn pairwise
+bodies-back [] e = refl
+bodies-back (i ∷ is) e =
+    let w = both-true (every (otherType i) is) (pairwise otherType is) e in
+    let b : bodiesIn (map (λ j. j .mainType) is) (i ∷ is) ≡ map (λ j. j .body) is = bodies-behind i is is (w .0) ∙ bodies-back is (w .1) in
+    let h : sameType (i .mainType) (i .mainType) ≡ true = eq-eqb (number (i .mainType)) _ refl in
+    ap₂ (λ (x : List ℕ) (xs : List (List ℕ)). x ∷ xs) (rw h) b
 
-subtype-is : (a b c : Bool) (s : ℕ) → compositeSubtype (setNumber (record { meta = a; semantic = b; content = c })) s ≡ true → SubtypeIs a b c s
-unfolding compositeSubtype
-subtype-is true true true s e = let l : s ≤ 4 = leb-true s 4 e in record { semantic = λ _. l; content = λ _. l; is = refl }
-subtype-is true true false s e = let l : s ≤ 4 = leb-true s 4 e in record { semantic = λ _. l; content = λ _. l; is = refl }
-subtype-is true false true s e = let l : s ≤ 4 = leb-true s 4 e in record { semantic = λ _. l; content = λ _. l; is = refl }
-subtype-is false true true s e = let l : s ≤ 4 = leb-true s 4 e in record { semantic = λ _. l; content = λ _. l; is = refl }
-subtype-is false true false s e = let l : s ≤ 4 = leb-true s 4 e in record { semantic = λ _. l; content = λ _. l; is = refl }
-subtype-is false false true s e = let l : s ≤ 4 = leb-true s 4 e in record { semantic = λ _. l; content = λ _. l; is = refl }
-subtype-is true false false s e =
-    record { semantic = λ z. absurd (false≢true z); content = λ z. absurd (false≢true z); is = eqb-true s 6 e }
-subtype-is false false false s e =
-    record { semantic = λ z. absurd (false≢true z); content = λ z. absurd (false≢true z); is = eqb-true s 5 e }
+-- a unit that goes with the subtype s
+abbrev pub Bears : ℕ → Item → Type 0
+Bears s i = hasSubtype i ≡ true → i .subtype ≡ s
 
--- ---- joined again, the units make the composite
+bears-all : (s : ℕ) (is : List Item) → All (Bears s) is → pairwise sharedSubtype is ≡ true
+unfolding pairwise
+bears-all s [] a = refl
+bears-all s (i ∷ is) a = rw (every-all (sharedSubtype i) is (one is (a .1)), bears-all s is (a .1))
+  where
+    pair : (j : Item) (b c : Bool) → (b ≡ true → i .subtype ≡ s) → (c ≡ true → j .subtype ≡ s) → not (b && c) || eqb (i .subtype) (j .subtype) ≡ true
+    pair j true true f g = eq-eqb (i .subtype) (j .subtype) (f refl ∙ sym (g refl))
+    pair j true false f g = refl
+    pair j false c f g = refl
 
-module _ (s : ℕ) (da ins : List ℕ) (zd : Sized 8 da) (zi : Sized 8 ins) where
-  units-make : (me se co : Option (List ℕ)) → Eight me → Eight se → Eight co → SubtypeIs (isIn me) (isIn se) (isIn co) s
-      → compositeFrom (unitsIn s me se co da ins) ≡ accept (composite s 0 me se co da ins)
-  unfolding compositeFrom every pairwise bodyIn subtypeIn subtypeOf orMissing
-  units-make (some x) (some y) (some z) a b c w = simp (eq-eqb (length x) 8 (a .0), eq-eqb (length y) 8 (b .0), eq-eqb (length z) 8 (c .0), eq-eqb (length da) 8 (zd .0), eq-eqb (length ins) 8 (zi .0), eq-eqb s s refl)
-  units-make (some x) (some y) none a b c w = simp (eq-eqb (length x) 8 (a .0), eq-eqb (length y) 8 (b .0), eq-eqb (length da) 8 (zd .0), eq-eqb (length ins) 8 (zi .0))
-  units-make (some x) none (some z) a b c w = simp (eq-eqb (length x) 8 (a .0), eq-eqb (length z) 8 (c .0), eq-eqb (length da) 8 (zd .0), eq-eqb (length ins) 8 (zi .0))
-  units-make (some x) none none a b c w = let e : s ≡ 6 = w .is in simp (eq-eqb (length x) 8 (a .0), eq-eqb (length da) 8 (zd .0), eq-eqb (length ins) 8 (zi .0), e)
-  units-make none (some y) (some z) a b c w = simp (eq-eqb (length y) 8 (b .0), eq-eqb (length z) 8 (c .0), eq-eqb (length da) 8 (zd .0), eq-eqb (length ins) 8 (zi .0), eq-eqb s s refl)
-  units-make none (some y) none a b c w = simp (eq-eqb (length y) 8 (b .0), eq-eqb (length da) 8 (zd .0), eq-eqb (length ins) 8 (zi .0))
-  units-make none none (some z) a b c w = simp (eq-eqb (length z) 8 (c .0), eq-eqb (length da) 8 (zd .0), eq-eqb (length ins) 8 (zi .0))
-  units-make none none none a b c w = let e : s ≡ 5 = w .is in simp (eq-eqb (length da) 8 (zd .0), eq-eqb (length ins) 8 (zi .0), e)
+    one : (js : List Item) → All (Bears s) js → All (λ j. sharedSubtype i j ≡ true) js
+    one [] b = tt
+    one (j ∷ js) b = (pair j (hasSubtype i) (hasSubtype j) (a .0) (b .0), one js (b .1))
+
+pub subtype-there : (s : ℕ) (m : MainType) (is : List Item) → takesSubtype m ≡ true → All (Bears s) is → has m is ≡ true → subtypeIn m is ≡ s
+subtype-there s m is t a h = let r = found-in (Bears s) m is a h in r .subtype ∙ r .holds (ap takesSubtype (sym (r .named)) ∙ t)
+
+-- ---- the units of a permitted composite
+
+module _ (s v : ℕ) (u : Set) (bodies : List (List ℕ)) (p : Permitted (composite s v u bodies)) where
+  abbrev pub units : List Item
+  units = zipWith (unitWith s) (unitTypes u) bodies
+
+  same-count : length (unitTypes u) ≡ length bodies
+  same-count = types-count u ∙ sym (p .count)
+
+  pub units-types : map (λ i. i .mainType) units ≡ unitTypes u
+  units-types = map-zip-left (unitWith s) (λ i. i .mainType) (λ m. m) (λ m b. refl) (unitTypes u) bodies same-count ∙ map-id (unitTypes u)
+
+  pub units-count : length units ≡ unitCount u
+  units-count = sym (length-map units (λ i. i .mainType)) ∙ ap length units-types ∙ types-count u
+
+  pub units-subtypes : map (λ i. i .subtype) units ≡ map (λ m. cond (takesSubtype m) s 0) (unitTypes u)
+  units-subtypes = map-zip-left (unitWith s) (λ i. i .subtype) (λ m. cond (takesSubtype m) s 0) (λ m b. refl) (unitTypes u) bodies same-count
+
+  pub units-bodies : map (λ i. i .body) units ≡ bodies
+  units-bodies = map-zip-right (unitWith s) (λ i. i .body) (λ b. b) (λ m b. refl) (unitTypes u) bodies same-count ∙ map-id bodies
+
+  -- each is permitted, and passes the tests of a list
+  record Part (i : Item) : Type 0 where
+    pub permitted : PermittedItem i
+    pub joins : joinable i ≡ true
+    pub eight : is64Bits i ≡ true
+    pub bears : Bears s i
+
+  abbrev IsPart : MainType → Type 0
+  IsPart m = (body : List ℕ) → Sized 8 body → Part (unitWith s m body)
+
+  part : (m : MainType) → joinable (unitWith s m []) ≡ true → bodyBytes m (cond (takesSubtype m) s 0) 1 ≡ 8 → row m (cond (takesSubtype m) s 0) 1 ≡ true → IsPart m
+  part m j n r body z =
+      record { permitted = record { header = r; body = (z .0 ∙ sym n, z .1) }; joins = j; eight = eq-eqb (length body) 8 (z .0); bears = λ h. rw h }
+
+  low : (u .semantic || u .content) ≡ true → leb s 4 && leb 1 7 ≡ true
+  low h = rw (le-leb s 4 (subtype-low s u (p .subtype) h))
+
+  units-parts : All Part units
+  unfolding row bodyBytes
+  units-parts =
+      all-zip (unitWith s) IsPart (Sized 8) Part (λ m body f. f body) (unitTypes u) bodies
+      (types-all IsPart u (λ h. part META refl refl refl) (λ h. part SEMANTIC refl refl (low (rw h))) (λ h. part CONTENT refl refl (low (rw h (or-true (u .semantic)))))
+      (part DATA refl refl refl) (part INSTANCE refl refl refl))
+      (p .sized)
+
+  pub units-permitted : AllPermitted units
+  units-permitted = all-imp Part (λ i k. k .permitted) units units-parts
+
+  -- joined again, they make the composite
+  bears : All (Bears s) units
+  bears = all-imp Part (λ i k. k .bears) units units-parts
+
+  whole : (among DATA (unitTypes u) && among INSTANCE (unitTypes u) ≡ true) × (pairwise (λ m k. not (sameType m k)) (unitTypes u) ≡ true)
+  whole = both-true (among DATA (unitTypes u) && among INSTANCE (unitTypes u)) _ (types-whole u)
+
+  others : pairwise otherType units ≡ true
+  others = sym (pairwise-map (λ i. i .mainType) (λ m k. not (sameType m k)) units) ∙ ap (pairwise (λ m k. not (sameType m k))) units-types ∙ whole .1
+
+  in-set : (m : MainType) → has m units ≡ among m (unitTypes u)
+  in-set m = has-among m units ∙ ap (among m) units-types
+
+  set-is : setIn units ≡ u
+  set-is = rw (in-set META, in-set SEMANTIC, in-set CONTENT) (types-set u)
+
+  subtype-is : subtypeOf units ≡ s
+  unfolding subtypeOf
+  subtype-is = go (has SEMANTIC units) (has CONTENT units) (subtype-there s SEMANTIC units refl bears) (subtype-there s CONTENT units refl bears)
+      (λ h. subtype-fixed s u (p .subtype) (ap (λ (x : Set). x .semantic || x .content) (sym set-is) ∙ h) ∙ ap (λ (x : Set). cond (x .meta) 6 5) (sym set-is))
+    where
+      go : (b c : Bool) → (b ≡ true → subtypeIn SEMANTIC units ≡ s) → (c ≡ true → subtypeIn CONTENT units ≡ s) → ((b || c) ≡ false → s ≡ cond (has META units) 6 5)
+          → cond b (subtypeIn SEMANTIC units) (cond c (subtypeIn CONTENT units) (cond (has META units) 6 5)) ≡ s
+      go true c f g h = f refl
+      go false true f g h = g refl
+      go false false f g h = sym (h refl)
+
+  units-make : compositeFrom units ≡ accept (composite s 0 u bodies)
+  unfolding compositeFrom
+  units-make =
+      let d : has DATA units && has INSTANCE units ≡ true = rw (in-set DATA, in-set INSTANCE) (whole .0) in
+      let b : bodiesIn (unitTypes (setIn units)) units ≡ bodies =
+      ap (λ (ms : List MainType). bodiesIn ms units) (ap unitTypes set-is ∙ sym units-types) ∙ bodies-back units others ∙ units-bodies in
+      let j : every joinable units ≡ true = every-all joinable units (all-imp Part (λ i k. k .joins) units units-parts) in
+      let e : every is64Bits units ≡ true = every-all is64Bits units (all-imp Part (λ i k. k .eight) units units-parts) in
+      rw (j, e, others, d, bears-all s units bears, subtype-is, b, set-is)
 
 -- ---- the laws of split
 
-row-4 : (s : ℕ) → s ≤ 4 → leb s 4 && leb 1 7 ≡ true
-row-4 s l = rw (le-leb s 4 l)
-
-units-permitted : (s : ℕ) (me se co : Option (List ℕ)) (da ins : List ℕ) → Eight me → Eight se → Eight co → Sized 8 da → Sized 8 ins
-    → SubtypeIs (isIn me) (isIn se) (isIn co) s → AllPermitted (unitsIn s me se co da ins)
-unfolding row bodyBytes
-units-permitted s me se co da ins a b c d e w =
-    let us : List Item = unit64 DATA 0 da ∷ unit64 INSTANCE 0 ins ∷ [] in
-    let p₀ : AllPermitted us = (of-eight DATA 0 da refl refl d, (of-eight INSTANCE 0 ins refl refl e, tt)) in
-    let p₁ : AllPermitted (unitIn CONTENT s co ++ us) =
-    in-front CONTENT s co us (λ x q z. of-eight CONTENT s x (row-4 s (w .content (ap isIn q))) refl z) c p₀ in
-    let p₂ : AllPermitted (unitIn SEMANTIC s se ++ (unitIn CONTENT s co ++ us)) =
-    in-front SEMANTIC s se (unitIn CONTENT s co ++ us) (λ x q z. of-eight SEMANTIC s x (row-4 s (w .semantic (ap isIn q))) refl z) b p₁ in
-    let p₃ : AllPermitted (unitIn META 0 me ++ (unitIn SEMANTIC s se ++ (unitIn CONTENT s co ++ us))) =
-    in-front META 0 me (unitIn SEMANTIC s se ++ (unitIn CONTENT s co ++ us)) (λ x q z. of-eight META 0 x refl refl z) a p₂ in
-    rw (append-assoc (unitIn META 0 me ++ unitIn SEMANTIC s se) (unitIn CONTENT s co) us, append-assoc (unitIn META 0 me) (unitIn SEMANTIC s se) (unitIn CONTENT s co ++ us)) p₃
-
-read-all : (is : List Item) → 0 < length is → AllPermitted is → readItems (itemsBytes is) ≡ accept is
-read-all [] h p = absurd (not-suc-le-zero h)
-read-all (i ∷ is) h p = read-items i is p
+read-all : (is : List Item) → 2 ≤ length is → AllPermitted is → readItems (itemsBytes is) ≡ accept is
+read-all is h p = two-or-more (λ is. AllPermitted is → readItems (itemsBytes is) ≡ accept is) (λ i j is. read-items i (j ∷ is)) is h p
 
 pub joined-two : (is : List Item) → 2 ≤ length is → joinedMeaning is ≡ compositeFrom is
 unfolding joinedMeaning
 joined-two = two-or-more (λ is. joinedMeaning is ≡ compositeFrom is) (λ i j is. refl)
 
-two-units : (s : ℕ) (me se co : Option (List ℕ)) (da ins : List ℕ) → 2 ≤ length (unitsIn s me se co da ins)
-two-units s me se co da ins = simp length-append (omega arith)
-
 -- A permitted composite's bytes: split writes its units, in the composite's own order; they are read one by one as they went
 -- in; and joined they are the composite's bytes again.
-pub record Splits (s v : ℕ) (me se co : Option (List ℕ)) (da ins : List ℕ) : Type 0 where
-  pub parts : splitBytes (itemBytes (itemOf (composite s v me se co da ins))) ≡ accept (itemsBytes (unitsIn s me se co da ins))
-  pub read : readItems (itemsBytes (unitsIn s me se co da ins)) ≡ accept (unitsIn s me se co da ins)
-  pub whole : joinedBytes (itemsBytes (unitsIn s me se co da ins)) ≡ accept (itemBytes (itemOf (composite s v me se co da ins)))
+module _ (s v : ℕ) (u : Set) (bodies : List (List ℕ)) (p : Permitted (composite s v u bodies)) where
+  abbrev us : List Item
+  us = units s v u bodies p
 
-pub splits : (s v : ℕ) (me se co : Option (List ℕ)) (da ins : List ℕ) → Permitted (composite s v me se co da ins) → Splits s v me se co da ins
-unfolding splitBytes joinedBytes unitsOf
-splits s v me se co da ins p =
-    let m : Meaning = composite s v me se co da ins in
-    let v0 : v ≡ 0 = p .version in
-    let w : SubtypeIs (isIn me) (isIn se) (isIn co) s = subtype-is (isIn me) (isIn se) (isIn co) s (p .subtype) in
-    let us : AllPermitted (unitsIn s me se co da ins) = units-permitted s me se co da ins (p .meta) (p .semantic) (p .content) (p .dataBody) (p .instanceBody) w in
-    let n : 2 ≤ length (unitsIn s me se co da ins) = two-units s me se co da ins in
-    let r : readItems (itemsBytes (unitsIn s me se co da ins)) ≡ accept (unitsIn s me se co da ins) = read-all (unitsIn s me se co da ins) (omega arith) us in
-    let c : compositeFrom (unitsIn s me se co da ins) ≡ accept (composite s 0 me se co da ins) = units-make s da ins (p .dataBody) (p .instanceBody) me se co (p .meta) (p .semantic) (p .content) w in
-    record {
-      parts = rw (read-one (itemOf m) (item-permitted m p), meaning-back m p);
-      read = r;
-      whole = rw (r, joined-two (unitsIn s me se co da ins) n, c, v0);
-    }
+  pub split-parts : splitBytes (itemBytes (itemOf (composite s v u bodies))) ≡ accept (itemsBytes us)
+  unfolding splitBytes unitsOf
+  split-parts = rw (read-one (itemOf (composite s v u bodies)) (item-permitted (composite s v u bodies) p), meaning-back (composite s v u bodies) p)
+
+  two-units : 2 ≤ length us
+  two-units = omega (arith, units-count s v u bodies p)
+
+  pub split-read : readItems (itemsBytes us) ≡ accept us
+  split-read = read-all us two-units (units-permitted s v u bodies p)
+
+  pub split-joined : joinedBytes (itemsBytes us) ≡ accept (itemBytes (itemOf (composite s v u bodies)))
+  unfolding joinedBytes
+  split-joined = rw (split-read, joined-two us two-units, units-make s v u bodies p, p .version)
 
 -- ---- what exactly-one and join accept
 
@@ -143,24 +214,17 @@ one-read bs i k e =
     subst (λ (j : Item). PermittedItem j × (itemBytes j ≡ bs)) (accept-inj (p .1))
     (g .permitted, g .again ∙ take-all (r .0 .used) bs (leb-true (length bs) (r .0 .used) (p .0)))
 
--- join writes the bytes of a permitted composite, which read back
-pub record Joined (out : List ℕ) : Type 0 where
-  pub meaning : Meaning
-  pub permitted : Permitted meaning
-  pub bytes : itemBytes (itemOf meaning) ≡ out
-  pub back : readOne out ≡ accept (itemOf meaning)
-
 joined-permitted : (is : List Item) (m : Meaning) → AllPermitted is → joinedMeaning is ≡ accept m → Permitted m
 unfolding joinedMeaning
 joined-permitted [] m p e = absurd (never e)
 joined-permitted (i ∷ []) m p e = absurd (never (passed (joinable i) _ (refuse lacksDataOrInstance) e .1))
 joined-permitted (i ∷ j ∷ is) m p e = compositeFrom-permitted (i ∷ j ∷ is) m p e
 
-pub join-makes : (bs out : List ℕ) → Below 256 bs → joinedBytes bs ≡ accept out → Joined out
+pub join-makes : (bs out : List ℕ) → Below 256 bs → joinedBytes bs ≡ accept out → JoinBack bs out
 unfolding joinedBytes
 join-makes bs out k e =
     let r = answered (readItems bs) _ e in
     let q = answered (joinedMeaning (r .0)) (λ m. accept (itemBytes (itemOf m))) (r .2) in
     let p : Permitted (q .0) = joined-permitted (r .0) (q .0) (items-read bs (r .0) k (r .1) .permitted) (q .1) in
-    subst Joined (accept-inj (q .2))
-    (record { meaning = q .0; permitted = p; bytes = refl; back = read-one (itemOf (q .0)) (item-permitted (q .0) p) })
+    subst (JoinBack bs) (accept-inj (q .2))
+    (record { items = r .0; from = r .1; meaning = q .0; made = q .1; permitted = p; read = read-one (itemOf (q .0)) (item-permitted (q .0) p); bytes = refl })

@@ -8,7 +8,7 @@ use lib.ListN.{getD}
 use native.Mathlib.Nat.{add-zero, zero-add, add-suc, suc-add, le-of-suc-le-suc, not-suc-le-zero}
 use native.Mathlib.Decide.{ℕ-discrete}
 use native.Mathlib.Omega.{arith}
-use Rattle.iscc.proofs.Booleans.{and-true}
+use Rattle.iscc.proofs.Booleans.{both-true}
 
 unfoldable pub upTo : ℕ → (ℕ → Bool) → Bool
 upTo zero p = true
@@ -18,7 +18,7 @@ pub at : (n : ℕ) (p : ℕ → Bool) → upTo n p ≡ true → (k : ℕ) → k 
 unfolding upTo
 at zero p e k h = absurd (not-suc-le-zero h)
 at (suc n) p e k h =
-    let q = and-true (p n) (upTo n p) e in
+    let q = both-true (p n) (upTo n p) e in
     elim (ℕ-discrete k n) [ yes s ↦ subst (λ (j : ℕ). p j ≡ true) (sym s) (q .0) | no d ↦ at n p (q .1) k (omega arith) ]
 
 -- a table that is a function's values, one after the other: antt computes that it is, and `entry` reads one

@@ -2,7 +2,8 @@
 -- Assumes nothing.
 use Prim.Native.Nat.{ℕ}
 use mathlib.Core.Bool.{true}
-use mathlib.Core.List.{List, [], _∷_}
+use mathlib.Core.List.{List}
+use Rattle.iscc.specs.Ascii.{ascii}
 use Rattle.iscc.specs.Answer.{Answer, accept, into}
 use Rattle.iscc.specs.Alphabet.{Alphabet, encode, decode}
 
@@ -11,9 +12,7 @@ unfoldable pub base32 : Alphabet
 base32 =
     record {
       bits = 5;
-      chars =
-          65 ∷ 66 ∷ 67 ∷ 68 ∷ 69 ∷ 70 ∷ 71 ∷ 72 ∷ 73 ∷ 74 ∷ 75 ∷ 76 ∷ 77 ∷ 78 ∷ 79 ∷ 80
-          ∷ 81 ∷ 82 ∷ 83 ∷ 84 ∷ 85 ∷ 86 ∷ 87 ∷ 88 ∷ 89 ∷ 90 ∷ 50 ∷ 51 ∷ 52 ∷ 53 ∷ 54 ∷ 55 ∷ [];
+      chars = ascii "ABCDEFGHIJKLMNOPQRSTUVWXYZ234567";
       eitherCase = true;
     }
 

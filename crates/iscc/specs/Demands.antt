@@ -1,28 +1,28 @@
 -- The user's three demands, a field for each sentence, over the definitions that the calls' contracts cite.
 -- proofs/Demands.antt proves them. A byte string is a list with `Below 256`.
--- Assumes nothing.
 use Prim.Native.Nat.{ℕ, _%_, _≤_, _<_}
 use mathlib.Core.Path.{_≡_}
 use mathlib.Core.Logic.{_⊎_, _↔_}
-use mathlib.Core.Bool.{true, not, _||_}
-use mathlib.Core.Option.{Option}
-use mathlib.Core.List.{List, [], _∷_, _++_, map}
+use mathlib.Core.Bool.{true, cond, not, _||_}
+use mathlib.Core.List.{List, _∷_, _++_, map}
 use lib.Dec.{eqb, ltb}
 use lib.ListN.{length, take, drop}
 use lib.IntN.{pos}
 use lib.Ieee.{binary32, ofInt, mul, eq}
 use Rattle.iscc.specs.Refusals.{Refusal}
 use Rattle.iscc.specs.Answer.{Answer, accept, refuse, Accepted, Kept}
+use Rattle.iscc.specs.Lists.{All, Reordered}
 use Rattle.iscc.specs.Digits.{Below, toDigits, spareCount, fromDigits}
 use Rattle.iscc.specs.Alphabet.{upper, encode, decode}
 use Rattle.iscc.specs.Base32.{base32, readBase32, writeBase32}
 use Rattle.iscc.specs.Varnibble.{Parsed, varnibble, readVarnibble}
 use Rattle.iscc.specs.Header.{Header, headerBytes, readHeader, writeHeader}
+use Rattle.iscc.specs.Permitted.{Set, unitTypes}
 use Rattle.iscc.specs.Meaning.{Meaning, composite, Permitted}
 use Rattle.iscc.specs.Item.{Item, headerOf, itemBytes, readItem, readOne, unitBytes, writeUnit, meaningOf, itemOf}
-use Rattle.iscc.specs.Items.{readItems, itemsBytes, unitsOf, joinedBytes, splitBytes, join, split, Reordered}
+use Rattle.iscc.specs.Items.{readItems, itemsBytes, takesSubtype, joinedMeaning, joinedBytes, splitBytes, join, split}
 use Rattle.iscc.specs.Doors.{scheme, codeOf, meaningOfText, textOf, readCode, writeText, intake, writtenText, strict}
-use Rattle.iscc.specs.Distance.{Distance, distance, ratioOf}
+use Rattle.iscc.specs.Distance.{Distance, bitsOf, distance, ratioOf}
 use Rattle.iscc.specs.Exactly.{Exactly}
 use Rattle.iscc.specs.RefusalOrder.{intakeStages, strictStages, unitStages, headerStages, readStages, writeStages, writeUnitStages, writeHeaderStages, joinAllStages, oneStages, splitStages, distanceStages, readCodeStages, writeTextStages}
 
@@ -67,10 +67,6 @@ parsed r n = record { result = r; used = n }
 abbrev Writable : Header → Type 0
 Writable h = (h .mainType ≤ 4679) × (h .subtype ≤ 4679) × (h .version ≤ 4679) × (h .lengthNo ≤ 4679)
 
-abbrev pub AllPermitted : List Meaning → Type 0
-AllPermitted [] = Unit {0}
-AllPermitted (m ∷ ms) = Permitted m × AllPermitted ms
-
 -- The unit writer's bytes read back, whatever follows: the header that was written, and the body area's first bytes.
 pub record UnitBack (h : Header) (body out rest : List ℕ) : Type 0 where
   pub item : Item
@@ -78,12 +74,25 @@ pub record UnitBack (h : Header) (body out rest : List ℕ) : Type 0 where
   pub header : headerOf item ≡ h
   pub bodyIs : item .body ≡ take (length (item .body)) body
 
--- Join's bytes read back as exactly one item, which has a permitted meaning.
-pub record JoinBack (out : List ℕ) : Type 0 where
+-- Join's bytes: the items that were read make a permitted meaning, and what is written reads back as exactly the one item that has it.
+pub record JoinBack (bs out : List ℕ) : Type 0 where
+  pub items : List Item
+  pub from : readItems bs ≡ accept items
   pub meaning : Meaning
+  pub made : joinedMeaning items ≡ accept meaning
   pub permitted : Permitted meaning
   pub read : readOne out ≡ accept (itemOf meaning)
   pub bytes : itemBytes (itemOf meaning) ≡ out
+
+-- Split's bytes: units that are read one by one, in the composite's own order, each with its own body; SEMANTIC and CONTENT have
+-- the composite's subtype, and the others 0.
+pub record SplitBack (s v : ℕ) (units : Set) (bodies : List (List ℕ)) : Type 0 where
+  pub items : List Item
+  pub bytes : splitBytes (itemBytes (itemOf (composite s v units bodies))) ≡ accept (itemsBytes items)
+  pub read : readItems (itemsBytes items) ≡ accept items
+  pub mainTypes : map (λ i. i .mainType) items ≡ unitTypes units
+  pub subtypes : map (λ i. i .subtype) items ≡ map (λ m. cond (takesSubtype m) s 0) (unitTypes units)
+  pub bodiesIn : map (λ i. i .body) items ≡ bodies
 
 -- Demand 2. Everything is read and written as ISO 24138 and RFC 4648 define it, within 01's limits. What is written reads back;
 -- what is read and written again is the same bytes (case of base32 letters apart); units laid end to end are read one by one as
@@ -96,7 +105,7 @@ pub record Demand2 : Type 1 where
   pub unitBack : (h : Header) (body out rest : List ℕ) → Below 256 body → unitBytes h body ≡ accept out → UnitBack h body out rest
   pub codeBack : (m : Meaning) (rest : List ℕ) → Permitted m → readItem (itemBytes (itemOf m) ++ rest) ≡ accept (parsed (itemOf m) (length (itemBytes (itemOf m))))
   pub codeMeans : (m : Meaning) → Permitted m → meaningOf (itemOf m) ≡ m
-  pub joinBack : (bs out : List ℕ) → Below 256 bs → joinedBytes bs ≡ accept out → JoinBack out
+  pub joinBack : (bs out : List ℕ) → Below 256 bs → joinedBytes bs ≡ accept out → JoinBack bs out
   -- what is read and written again is the same bytes, the case of base32 letters apart
   pub base32Again : (t bs : List ℕ) → decode base32 t ≡ accept bs → encode base32 bs ≡ map upper t
   pub varnibbleAgain : (ns : List ℕ) (g : Parsed ℕ) → Below 16 ns → readVarnibble ns ≡ accept g → varnibble (g .result) ≡ take (g .used) ns
@@ -104,18 +113,19 @@ pub record Demand2 : Type 1 where
   pub unitAgain : (bs : List ℕ) (g : Parsed Item) → Below 256 bs → readItem bs ≡ accept g → itemBytes (g .result) ≡ take (g .used) bs
   pub unitsAgain : (bs : List ℕ) (is : List Item) → Below 256 bs → readItems bs ≡ accept is → itemsBytes is ≡ bs
   -- units laid end to end are read one by one as they went in: all at once, and by the reader of one unit used again on the rest
-  pub laidEnd : (m : Meaning) (ms : List Meaning) → AllPermitted (m ∷ ms) → readItems (itemsBytes (map itemOf (m ∷ ms))) ≡ accept (map itemOf (m ∷ ms))
+  pub laidEnd : (m : Meaning) (ms : List Meaning) → All Permitted (m ∷ ms) → readItems (itemsBytes (map itemOf (m ∷ ms))) ≡ accept (map itemOf (m ∷ ms))
   pub oneByOne : (m : Meaning) (ms : List Meaning) → Permitted m
       → (readItem (itemsBytes (map itemOf (m ∷ ms))) ≡ accept (parsed (itemOf m) (length (itemBytes (itemOf m)))))
       × (drop (length (itemBytes (itemOf m))) (itemsBytes (map itemOf (m ∷ ms))) ≡ itemsBytes (map itemOf ms))
   -- split from a composite in its own order, and join of what split gives is the composite again
-  pub splitOrder : (s v : ℕ) (me se co : Option (List ℕ)) (da ins : List ℕ) (is : List Item) → Permitted (composite s v me se co da ins)
-      → unitsOf (composite s v me se co da ins) ≡ accept is
-      → (splitBytes (itemBytes (itemOf (composite s v me se co da ins))) ≡ accept (itemsBytes is)) × (readItems (itemsBytes is) ≡ accept is)
+  pub splitOrder : (s v : ℕ) (units : Set) (bodies : List (List ℕ)) → Permitted (composite s v units bodies) → SplitBack s v units bodies
   pub splitJoin : (bs out : List ℕ) → Below 256 bs → splitBytes bs ≡ accept out → joinedBytes out ≡ accept bs
   -- digits, once over the bits per digit
   pub digitsBack : (v : ℕ) → 0 < v → v ≤ 8 → (bs : List ℕ) → Below 256 bs → fromDigits v (toDigits v bs) ≡ accept bs
-  -- the distance: d is at most n, n at most 256, and for these n the float product of the ratio and n is d as a float
+  -- the distance: n is the shorter body's bits
+  pub distanceShorter : (x y : List ℕ) (i j : Item) (r : Distance) → readOne x ≡ accept i → readOne y ≡ accept j → distance x y ≡ accept r
+      → (length (i .body) ≤ length (j .body) → r .n ≡ length (bitsOf (i .body))) × (length (j .body) ≤ length (i .body) → r .n ≡ length (bitsOf (j .body)))
+  -- d is at most n, n at most 256, and for these n the float product of the ratio and n is d as a float
   pub distanceBounds : (x y : List ℕ) (r : Distance) → distance x y ≡ accept r → (r .d ≤ r .n) × (r .n ≤ 256)
   pub distanceExact : (n : ℕ) → (n ≡ 32) ⊎ (n ≡ 64) ⊎ (n ≡ 128) ⊎ (n ≡ 256) → (d : ℕ) → d ≤ n
       → eq (mul binary32 (ratioOf d n) (ofInt binary32 (pos n))) (ofInt binary32 (pos d)) ≡ true
@@ -139,5 +149,7 @@ pub record Demand3 : Type 1 where
   pub spelling : (m : Meaning) → textOf m ≡ scheme ++ encode base32 (itemBytes (itemOf m))
   -- in at most 73 characters; what a text means is permitted.
   pub short : (t : List ℕ) (m : Meaning) → meaningOfText t ≡ accept m → Permitted m × (length (textOf m) ≤ 73)
-  -- Any order of the same units in a list gives the same answer, refusal number included.
+  -- Any order of the same units in a list gives the same answer, refusal number included, from intake
   pub anyOrder : (t u : List ℕ) (is js : List Item) (area : ℕ) → codeOf t ≡ accept is → codeOf u ≡ accept js → Reordered is js → intake t area ≡ intake u area
+  -- and from join.
+  pub joinAnyOrder : (bs cs : List ℕ) (is js : List Item) (area : ℕ) → readItems bs ≡ accept is → readItems cs ≡ accept js → Reordered is js → join bs area ≡ join cs area

@@ -1,16 +1,16 @@
 -- Document 01, "Distance": n, the shorter body's bits; d, the differing bits among the first n; the ratio d / n.
 -- Assumes nothing.
 use Prim.Native.Nat.{ℕ, _+_, _*_, min}
-use mathlib.Core.Bool.{Bool, false, cond, _&&_}
+use mathlib.Core.Bool.{Bool, true, false, cond, _&&_}
 use mathlib.Core.List.{List, [], _∷_, _++_}
 use lib.ListN.{length}
-use lib.Dec.{eqb, leb}
+use lib.Dec.{eqb}
 use lib.IntN.{pos}
 use lib.Ieee.{Float, fin, binary32, ofInt, div}
 use Rattle.iscc.specs.Answer.{Answer, accept, refuse, _>>=_, _>>_, _otherwise_}
 use Rattle.iscc.specs.Refusals.{noDistance}
 use Rattle.iscc.specs.Digits.{digits}
-use Rattle.iscc.specs.Permitted.{number}
+use Rattle.iscc.specs.Permitted.{MainType, META, SEMANTIC, CONTENT, DATA, INSTANCE, ISCC, ID}
 use Rattle.iscc.specs.Item.{Item, readOne}
 use Rattle.iscc.specs.Items.{sameType}
 
@@ -40,9 +40,19 @@ differingBits x y = differingPlaces (bitsOf x) (bitsOf y)
 unfoldable pub comparedBits : List ℕ → List ℕ → ℕ
 comparedBits x y = 8 * min (length x) (length y)
 
--- 18 unless main type (0 to 3) and subtype agree
+-- the main types whose units have a distance
+abbrev pub hasDistance : MainType → Bool
+hasDistance META = true
+hasDistance SEMANTIC = true
+hasDistance CONTENT = true
+hasDistance DATA = true
+hasDistance INSTANCE = false
+hasDistance ISCC = false
+hasDistance ID = false
+
+-- 18 unless main type (META to DATA) and subtype agree
 unfoldable pub comparable : Item → Item → Bool
-comparable i j = sameType (i .mainType) (j .mainType) && leb (number (i .mainType)) 3 && eqb (i .subtype) (j .subtype)
+comparable i j = sameType (i .mainType) (j .mainType) && hasDistance (i .mainType) && eqb (i .subtype) (j .subtype)
 
 -- 7, 8, 9, 19 on the first, the same on the second, then 18
 unfoldable pub distance : List ℕ → List ℕ → Answer Distance

@@ -7,6 +7,7 @@ use lib.ListN.{length, take, drop}
 use lib.Dec.{eqb, leb, ltb}
 use Rattle.iscc.specs.Answer.{Answer, accept, _>>=_, _>>_, _otherwise_, areaAfter, written}
 use Rattle.iscc.specs.Refusals.{emptyText, longText, longRun, areaTooShort, otherText}
+use Rattle.iscc.specs.Ascii.{ascii}
 use Rattle.iscc.specs.Alphabet.{Alphabet, upper, encode, decode}
 use Rattle.iscc.specs.Base32.{base32}
 use Rattle.iscc.specs.Item.{Item, itemBytes, itemOf, readOne, meaningOf}
@@ -40,7 +41,7 @@ sameText (c ∷ cs) (d ∷ ds) = eqb c d && sameText cs ds
 
 -- the five characters ISCC:
 unfoldable pub scheme : List ℕ
-scheme = 73 ∷ 83 ∷ 67 ∷ 67 ∷ 58 ∷ []
+scheme = ascii "ISCC:"
 
 -- dropped once if they stand there in any letter case: how many characters that drops
 unfoldable pub schemeLength : List ℕ → ℕ

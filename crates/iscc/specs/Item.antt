@@ -1,17 +1,16 @@
 -- One item, a unit or a composite, as bytes: a permitted header and then the body.
--- Assumes nothing.
 use Prim.Native.Nat.{ℕ, _+_, _-_, _/_}
-use mathlib.Core.Bool.{Bool, true, false, _&&_}
-use mathlib.Core.Option.{Option, none, some}
-use mathlib.Core.List.{List, [], _++_}
+use mathlib.Core.Bool.{_&&_}
+use mathlib.Core.List.{List, _++_, flatten}
 use lib.ListN.{length, take, drop}
 use lib.Dec.{leb}
 use Rattle.iscc.specs.Answer.{Answer, accept, _>>=_, _>>_, _otherwise_, into}
 use Rattle.iscc.specs.Refusals.{notPermitted, shortBody, bytesLeftOver}
 use Rattle.iscc.specs.Varnibble.{Parsed}
 use Rattle.iscc.specs.Header.{Header, headerBytes, readHeader}
-use Rattle.iscc.specs.Permitted.{MainType, META, SEMANTIC, CONTENT, DATA, INSTANCE, ISCC, ID, number, mainTypeOf, isUnit, Set, setOf, setNumber, permits, bodyBytes}
-use Rattle.iscc.specs.Meaning.{Meaning, unit, composite, setIn}
+use Rattle.iscc.specs.Permitted.{MainType, META, SEMANTIC, CONTENT, DATA, INSTANCE, ISCC, ID, number, mainTypeOf, isUnit, Set, setOf, setNumber, unitCount, permits, bodyBytes}
+use Rattle.iscc.specs.Lists.{cut}
+use Rattle.iscc.specs.Meaning.{Meaning, unit, composite}
 
 pub record Item : Type 0 where
   pub mainType : MainType
@@ -63,22 +62,9 @@ writeUnit h body area = into area (unitBytes h body)
 
 -- ---- an item's meaning
 
--- the next eight bytes if a unit is in, and what follows them
-abbrev pub nextBody : Bool → List ℕ → Option (List ℕ)
-nextBody true bs = some (take 8 bs)
-nextBody false bs = none
-
-abbrev pub behind : Bool → List ℕ → List ℕ
-behind true bs = drop 8 bs
-behind false bs = bs
-
--- a composite's body holds the bodies of the units in it, in the order META, SEMANTIC, CONTENT, DATA, INSTANCE
+-- a composite's body holds the bodies of the units in it, eight bytes each, in the order META, SEMANTIC, CONTENT, DATA, INSTANCE
 unfoldable pub compositeOf : ℕ → ℕ → Set → List ℕ → Meaning
-compositeOf s v in? bs₀ =
-    let bs₁ : List ℕ = behind (in? .meta) bs₀ in
-    let bs₂ : List ℕ = behind (in? .semantic) bs₁ in
-    let bs₃ : List ℕ = behind (in? .content) bs₂ in
-    composite s v (nextBody (in? .meta) bs₀) (nextBody (in? .semantic) bs₁) (nextBody (in? .content) bs₂) (take 8 bs₃) (drop 8 bs₃)
+compositeOf s v units body = composite s v units (cut 8 (unitCount units) body)
 
 unfoldable pub meaningAs : MainType → ℕ → ℕ → ℕ → List ℕ → Meaning
 meaningAs META s v l body = unit META s v body
@@ -104,18 +90,8 @@ lengthNoOf INSTANCE n = n / 4 - 1
 lengthNoOf ISCC n = 0
 lengthNoOf ID n = n - 8
 
-abbrev pub bytesIn : Option (List ℕ) → List ℕ
-bytesIn none = []
-bytesIn (some body) = body
-
 unfoldable pub itemOf : Meaning → Item
 itemOf (unit m s v body) =
     record { mainType = m; subtype = s; version = v; lengthNo = lengthNoOf m (length body); body = body }
-itemOf (composite s v me se co da ins) =
-    record {
-      mainType = ISCC;
-      subtype = s;
-      version = v;
-      lengthNo = setNumber (setIn me se co);
-      body = bytesIn me ++ bytesIn se ++ bytesIn co ++ da ++ ins;
-    }
+itemOf (composite s v units bodies) =
+    record { mainType = ISCC; subtype = s; version = v; lengthNo = setNumber units; body = flatten bodies }

@@ -1,16 +1,15 @@
 -- Items laid end to end: read from the left until no byte remains; joined to one composite; split from one.
--- Assumes nothing.
 use Rattle.iscc.specs.Lists.{every, pairwise}
-use Prim.Native.Nat.{ℕ, zero, suc, _+_}
-use mathlib.Core.Bool.{Bool, cond, not, _&&_, _||_}
+use Prim.Native.Nat.{ℕ, zero, suc}
+use mathlib.Core.Bool.{Bool, true, false, cond, not, _&&_, _||_}
 use mathlib.Core.Option.{Option, none, some}
-use mathlib.Core.List.{List, [], _∷_, _++_}
+use mathlib.Core.List.{List, [], _∷_, _++_, map, zipWith}
 use lib.ListN.{length, drop}
 use lib.Dec.{eqb, leb}
 use Rattle.iscc.specs.Answer.{Answer, accept, refuse, _>>=_, _>>_, _otherwise_, into}
-use Rattle.iscc.specs.Refusals.{Refusal, badHeader, notPermitted, notJoinable, not64Bits, mainTypeTwice, lacksDataOrInstance, subtypesDiffer}
-use Rattle.iscc.specs.Permitted.{MainType, META, SEMANTIC, CONTENT, DATA, INSTANCE, ISCC, ID, number}
-use Rattle.iscc.specs.Meaning.{Meaning, unit, composite, isIn}
+use Rattle.iscc.specs.Refusals.{badHeader, notPermitted, notJoinable, not64Bits, mainTypeTwice, lacksDataOrInstance, subtypesDiffer}
+use Rattle.iscc.specs.Permitted.{MainType, META, SEMANTIC, CONTENT, DATA, INSTANCE, ISCC, ID, number, Set, unitTypes}
+use Rattle.iscc.specs.Meaning.{Meaning, unit, composite}
 use Rattle.iscc.specs.Item.{Item, itemBytes, itemOf, readItem, readOne, meaningOf}
 
 -- ---- reading a list: 7, 8, 9 for each item from the left, all of one item before the next. No bytes are 7.
@@ -44,8 +43,11 @@ abbrev pub otherType : Item → Item → Bool
 otherType i j = not (sameType (i .mainType) (j .mainType))
 
 -- 14: SEMANTIC and CONTENT, where both are in, share their subtype
+abbrev pub takesSubtype : MainType → Bool
+takesSubtype m = sameType m SEMANTIC || sameType m CONTENT
+
 abbrev pub hasSubtype : Item → Bool
-hasSubtype i = sameType (i .mainType) SEMANTIC || sameType (i .mainType) CONTENT
+hasSubtype i = takesSubtype (i .mainType)
 
 abbrev pub sharedSubtype : Item → Item → Bool
 sharedSubtype i j = not (hasSubtype i && hasSubtype j) || eqb (i .subtype) (j .subtype)
@@ -59,8 +61,23 @@ unfoldable pub subtypeIn : MainType → List Item → ℕ
 subtypeIn m [] = 0
 subtypeIn m (i ∷ is) = cond (sameType m (i .mainType)) (i .subtype) (subtypeIn m is)
 
+abbrev pub isIn : Option (List ℕ) → Bool
+isIn none = false
+isIn (some body) = true
+
+abbrev pub bytesIn : Option (List ℕ) → List ℕ
+bytesIn none = []
+bytesIn (some body) = body
+
+-- the main types in a list, and their bodies
 abbrev pub has : MainType → List Item → Bool
 has m is = isIn (bodyIn m is)
+
+abbrev pub setIn : List Item → Set
+setIn is = record { meta = has META is; semantic = has SEMANTIC is; content = has CONTENT is }
+
+abbrev pub bodiesIn : List MainType → List Item → List (List ℕ)
+bodiesIn ms is = map (λ m. bytesIn (bodyIn m is)) ms
 
 -- the composite's subtype: 5 with neither, 6 with META alone, and otherwise what SEMANTIC and CONTENT share
 unfoldable pub subtypeOf : List Item → ℕ
@@ -69,23 +86,15 @@ subtypeOf is =
     (cond (has CONTENT is) (subtypeIn CONTENT is)
     (cond (has META is) 6 5))
 
--- DATA's and INSTANCE's bodies, or 13
-unfoldable pub orMissing : Refusal → Option (List ℕ) → Answer (List ℕ)
-orMissing r none = refuse r
-orMissing r (some body) = accept body
-
-abbrev pub requiredBody : MainType → List Item → Answer (List ℕ)
-requiredBody m is = orMissing lacksDataOrInstance (bodyIn m is)
-
+-- the composite that a list makes: the main types in it as its units, and their bodies in the composite's order
 unfoldable pub compositeFrom : List Item → Answer Meaning
 compositeFrom is = do
   every joinable is otherwise notJoinable
   every is64Bits is otherwise not64Bits
   pairwise otherType is otherwise mainTypeTwice
-  da ← requiredBody DATA is
-  ins ← requiredBody INSTANCE is
+  (has DATA is && has INSTANCE is) otherwise lacksDataOrInstance
   pairwise sharedSubtype is otherwise subtypesDiffer
-  accept (composite (subtypeOf is) 0 (bodyIn META is) (bodyIn SEMANTIC is) (bodyIn CONTENT is) da ins)
+  accept (composite (subtypeOf is) 0 (setIn is) (bodiesIn (unitTypes (setIn is)) is))
 
 -- ---- what a list of items means: one item itself, two or more the composite that they make
 
@@ -93,13 +102,6 @@ unfoldable pub meaningOfItems : List Item → Answer Meaning
 meaningOfItems [] = refuse badHeader
 meaningOfItems (i ∷ []) = accept (meaningOf i)
 meaningOfItems (i ∷ j ∷ is) = compositeFrom (i ∷ j ∷ is)
-
--- the same items in another order
-pub data Reordered : List Item → List Item → Type 0 where
-  nil : Reordered [] []
-  keep : (i : Item) {is js : List Item} → Reordered is js → Reordered (i ∷ is) (i ∷ js)
-  swap : (i j : Item) (is : List Item) → Reordered (i ∷ j ∷ is) (j ∷ i ∷ is)
-  then : {is js ks : List Item} → Reordered is js → Reordered js ks → Reordered is ks
 
 -- ---- join: of one item 10 or 13, of more 10 to 14; then 15
 
@@ -125,14 +127,13 @@ join bs area = into area (joinedBytes bs)
 abbrev pub unit64 : MainType → ℕ → List ℕ → Item
 unit64 m s body = record { mainType = m; subtype = s; version = 0; lengthNo = 1; body = body }
 
-abbrev pub unitIn : MainType → ℕ → Option (List ℕ) → List Item
-unitIn m s none = []
-unitIn m s (some body) = unit64 m s body ∷ []
+-- SEMANTIC and CONTENT take the composite's subtype, and the others 0
+abbrev pub unitWith : ℕ → MainType → List ℕ → Item
+unitWith s m body = unit64 m (cond (takesSubtype m) s 0) body
 
 unfoldable pub unitsOf : Meaning → Answer (List Item)
 unitsOf (unit m s v body) = refuse notPermitted
-unitsOf (composite s v me se co da ins) =
-    accept (unitIn META 0 me ++ unitIn SEMANTIC s se ++ unitIn CONTENT s co ++ (unit64 DATA 0 da ∷ unit64 INSTANCE 0 ins ∷ []))
+unitsOf (composite s v units bodies) = accept (zipWith (unitWith s) (unitTypes units) bodies)
 
 unfoldable pub itemsBytes : List Item → List ℕ
 itemsBytes [] = []

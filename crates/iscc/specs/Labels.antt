@@ -1,31 +1,22 @@
 -- Document 01, "Labels from both sides of the line": the statements; proofs/Labels.antt computes them.
 -- Assumes nothing.
-use Prim.Native.Nat.{ℕ, zero, suc, _+_}
-use Prim.Native.String.{String, len, charAt}
-use Prim.Native.Char.{code}
+use Prim.Native.Nat.{ℕ, _+_}
 use mathlib.Core.Path.{_≡_}
 use mathlib.Core.Bool.{false}
-use mathlib.Core.List.{List, [], _∷_, map}
+use mathlib.Core.List.{[], _∷_, map}
 use lib.Ieee.{Float, fin}
 use lib.IntN.{negsuc}
 use Rattle.iscc.specs.Answer.{accept, refuse}
 use Rattle.iscc.specs.Refusals.{refusal}
+use Rattle.iscc.specs.Ascii.{ascii}
 use Rattle.iscc.specs.Digits.{digitCount}
 use Rattle.iscc.specs.Varnibble.{writeVarnibble}
 use Rattle.iscc.specs.Header.{Header, writeHeader, readHeader}
-use Rattle.iscc.specs.Permitted.{ISCC, bodyBytes}
-use Rattle.iscc.specs.Item.{readItem}
+use Rattle.iscc.specs.Permitted.{ISCC, ID, number, bodyBytes}
+use Rattle.iscc.specs.Item.{readItem, writeUnit}
 use Rattle.iscc.specs.Doors.{intake}
 use Rattle.iscc.specs.Distance.{distance}
 use Rattle.iscc.specs.Lines.{lineProgram}
-
--- the bytes of an ASCII text: n of them from place i on
-unfoldable pub charactersFrom : String → ℕ → ℕ → List ℕ
-charactersFrom s zero i = []
-charactersFrom s (suc n) i = code (charAt s i) ∷ charactersFrom s n (suc i)
-
-unfoldable pub ascii : String → List ℕ
-ascii s = charactersFrom s (len s) 0
 
 abbrev header : ℕ → ℕ → ℕ → ℕ → Header
 header m s v l = record { mainType = m; subtype = s; version = v; lengthNo = l }
@@ -69,3 +60,18 @@ pub record OtherLabels : Type 0 where
   pub characters : map (digitCount 5) (18 ∷ 26 ∷ 34 ∷ 42 ∷ []) ≡ 29 ∷ 42 ∷ 55 ∷ 68 ∷ []
   pub lineCase : lineProgram (ascii "GAAW2PRCRS5LNVZV-IAAUVACQKXE3V44W\niscc:maagztfqttvizpjr\n\nIscc:Maagztfqttvizpjr\n")
       ≡ ascii "ISCC:KUAG2PRCRS5LNVZVJKAFAVOJXLZZM\nISCC:MAAGZTFQTTVIZPJR\nrefused 1\nISCC:MAAGZTFQTTVIZPJR\n"
+
+-- what the labels leave open by one, pinned from both sides
+pub record PinnedDefinitions : Type 0 where
+  -- n is the shorter body's bits, whichever comes first: a DATA unit of 32 bits and one of 64
+  pub shorterFirst : distance (0x30 ∷ 0 ∷ 0xff ∷ 0 ∷ 0 ∷ 1 ∷ []) (0x30 ∷ 1 ∷ 0 ∷ 0 ∷ 0 ∷ 0 ∷ 0xff ∷ 0xff ∷ 0xff ∷ 0xff ∷ []) ≡ accept (record { d = 9; n = 32; ratio = nineThirtySeconds })
+  pub shorterSecond : distance (0x30 ∷ 1 ∷ 0 ∷ 0 ∷ 0 ∷ 0 ∷ 0xff ∷ 0xff ∷ 0xff ∷ 0xff ∷ []) (0x30 ∷ 0 ∷ 0xff ∷ 0 ∷ 0 ∷ 1 ∷ []) ≡ accept (record { d = 9; n = 32; ratio = nineThirtySeconds })
+  -- DATA has a distance (above), INSTANCE has none
+  pub instances : distance (0x40 ∷ 0 ∷ 0 ∷ 0 ∷ 0 ∷ 0 ∷ []) (0x40 ∷ 0 ∷ 0 ∷ 0 ∷ 0 ∷ 0 ∷ []) ≡ refuse (refusal 18)
+  -- tab, CR and LF are blanks, at both ends
+  pub tabs : intake (ascii "\tGAAW2PRCRS5LNVZV\t") 73 ≡ accept (ascii "ISCC:GAAW2PRCRS5LNVZV")
+  pub returns : intake (ascii "\rGAAW2PRCRS5LNVZV\r") 73 ≡ accept (ascii "ISCC:GAAW2PRCRS5LNVZV")
+  pub feeds : intake (ascii "\nGAAW2PRCRS5LNVZV\n") 73 ≡ accept (ascii "ISCC:GAAW2PRCRS5LNVZV")
+  -- ID has subtype 5, and not 6
+  pub id5 : writeUnit (header (number ID) 5 0 0) (ascii "8 bytes.") 10 ≡ accept (0x65 ∷ 0x00 ∷ ascii "8 bytes.")
+  pub id6 : writeUnit (header (number ID) 6 0 0) (ascii "8 bytes.") 10 ≡ refuse (refusal 8)

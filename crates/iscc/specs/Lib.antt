@@ -2,6 +2,7 @@
 pub mod Refusals
 pub mod Answer
 pub mod Lists
+pub mod Ascii
 pub mod Digits
 pub mod Alphabet
 pub mod Base32

@@ -5,6 +5,7 @@ use mathlib.Core.Bool.{cond}
 use mathlib.Core.List.{List, [], _∷_, _++_}
 use lib.Dec.{eqb, ltb}
 use Rattle.iscc.specs.Answer.{Answer, accept, refuse}
+use Rattle.iscc.specs.Ascii.{ascii}
 use Rattle.iscc.specs.Doors.{intake}
 
 -- a byte in front of the first line, or as a line of its own before the end of input
@@ -21,10 +22,14 @@ linesOf (c ∷ cs) = cond (eqb c 10) ([] ∷ linesOf cs) (inFront c (linesOf cs)
 unfoldable pub decimal : ℕ → List ℕ
 decimal n = cond (ltb n 10) ((48 + n) ∷ []) ((48 + n / 10) ∷ (48 + n % 10) ∷ [])
 
+-- the word refused and a space
+unfoldable pub refusedWord : List ℕ
+refusedWord = ascii "refused "
+
 -- intake's text, or the word refused, a space and the number
 unfoldable pub lineAnswer : Answer (List ℕ) → List ℕ
 lineAnswer (accept out) = out
-lineAnswer (refuse n) = 114 ∷ 101 ∷ 102 ∷ 117 ∷ 115 ∷ 101 ∷ 100 ∷ 32 ∷ decimal (n .number)
+lineAnswer (refuse n) = refusedWord ++ decimal (n .number)
 
 unfoldable pub lineAnswers : List (List ℕ) → List ℕ
 lineAnswers [] = []

@@ -16,7 +16,7 @@ use Rattle.iscc.specs.declared.written.Written.the-variants.{Length, Refused}
 use Rattle.iscc.specs.Item.{Item}
 use Rattle.iscc.specs.Items.{readItems}
 use Rattle.iscc.specs.Doors.{payload, codeOf, meaningOfText, textOf, intake}
-use Rattle.iscc.specs.Lines.{decimal, lineAnswer}
+use Rattle.iscc.specs.Lines.{decimal, refusedWord, lineAnswer}
 use Rattle.iscc.specs.Exactly.{Rule, BrokenAt, First, whereAccepted}
 use Rattle.iscc.specs.RefusalOrder.{itemStage, digitStages, runStages, textStages, listStages, meaningStages, doorStages, intakeStages}
 use Rattle.iscc.proofs.Answer.{accepted-value}
@@ -100,10 +100,10 @@ answer-long t h = rw (intake-long t h)
 -- ---- every answer fits 74 bytes
 
 refused-length : (q : Refusal) → length (lineAnswer (refuse q)) ≤ 73
-unfolding lineAnswer decimal
+unfolding lineAnswer decimal refusedWord
 refused-length q = go (ltb (q .number) 10)
   where
-    go : (b : Bool) → length (114 ∷ 101 ∷ 102 ∷ 117 ∷ 115 ∷ 101 ∷ 100 ∷ 32 ∷ cond b ((48 + q .number) ∷ []) ((48 + q .number / 10) ∷ (48 + q .number % 10) ∷ [])) ≤ 73
+    go : (b : Bool) → length (refusedWord ++ cond b ((48 + q .number) ∷ []) ((48 + q .number / 10) ∷ (48 + q .number % 10) ∷ [])) ≤ 73
     go true = omega arith
     go false = omega arith
 

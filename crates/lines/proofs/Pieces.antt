@@ -2,7 +2,7 @@
 use Prim.Native.Nat.{ℕ, suc, _+_, _*_, _-_, _≤_, _<_}
 use mathlib.Core.Path.{_≡_, refl, sym, _∙_, ap}
 use mathlib.Core.Bool.{Bool, true, false, cond}
-use mathlib.Core.List.{List, [], _∷_, _++_, map, append-nil, append-assoc}
+use mathlib.Core.List.{List, [], _∷_, _++_, map, flatten, append-nil, append-assoc}
 use native.Mathlib.Numerals.{add-one}
 use native.Mathlib.Omega.{arith}
 use lib.ListN.{length, take, drop, length-append, length-drop}
@@ -17,7 +17,7 @@ use Rattle.iscc.specs.Answer.{Answer, accept, refuse, _>>_, _otherwise_, areaAf
 use Rattle.iscc.specs.Lines.{lineProgram}
 use Rattle.lines.specs.Feeding.{Feeding, answerLine, behind, nothingFed, feeding, begunLine, heldFor, lineFor, shortened, roomFor, fedBy, fedAs, lastAnswer, finishing}
 use Rattle.lines.specs.declared.feed.Fed.{Fed}
-use Rattle.lines.specs.Pieces.{Call, fedIn, taken, outputs, wholly, joined, AnyCut}
+use Rattle.lines.specs.Pieces.{Call, fedIn, taken, outputs, wholly, AnyCut}
 use Rattle.lines.proofs.Answers.{answer-short}
 use Rattle.lines.proofs.Held.{begun-kept, length-line, begun-none}
 use Rattle.lines.proofs.Lines.{NoLF, no-LF-more, program-ended, program-last, shortened-twice, shortened-more, same-answers, same-last}
@@ -155,8 +155,8 @@ within line piece held room = go (leb 1024 (length line))
     go true = let w = fed-within room (begunLine line held) piece in (w .used, w .answers)
     go false = let w = fed-within 0 (begunLine line held) piece in (w .used, omega (arith, w .answers))
 
-pieces-taken : (line : List ℕ) (held : ℕ) (ps : List (List ℕ)) → 1024 ≤ length line → taken line held (map wholly ps) ≡ joined ps
-unfolding taken joined
+pieces-taken : (line : List ℕ) (held : ℕ) (ps : List (List ℕ)) → 1024 ≤ length line → taken line held (map wholly ps) ≡ flatten ps
+unfolding taken flatten
 pieces-taken line held [] h = refl
 pieces-taken line held (p ∷ ps) h =
     let f : Feeding = fedIn line held (wholly p) in

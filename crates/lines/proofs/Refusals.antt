@@ -7,9 +7,8 @@ use lib.ListN.{length, drop, set}
 use borrow.Author.Tests.{lt-ltb, le-ltb}
 use Rattle.iscc.specs.Refusals.{Refusal}
 use Rattle.iscc.specs.Answer.{accept, refuse, areaAfter}
-use Rattle.iscc.specs.Lines.{decimal, lineAnswer}
+use Rattle.iscc.specs.Lines.{decimal, refusedWord, lineAnswer}
 use Rattle.iscc.proofs.Area.{Written, one-written, all-written}
-use Rattle.lines.specs.Feeding.{refusedWord}
 
 -- the answer's length and the area, once d was lent
 abbrev pub Refusing : Refusal → List ℕ → ℕ → List ℕ → Type 0

@@ -17,10 +17,6 @@ use Rattle.lines.specs.declared.feed.Fed as code
 unfoldable pub answerLine : List ℕ → List ℕ
 answerLine t = lineAnswer (intake t 73) ++ (10 ∷ [])
 
--- the word refused and a space
-unfoldable pub refusedWord : List ℕ
-refusedWord = 114 ∷ 101 ∷ 102 ∷ 117 ∷ 115 ∷ 101 ∷ 100 ∷ 32 ∷ []
-
 abbrev pub notLF : ℕ → Bool
 notLF c = not (eqb c 10)
 

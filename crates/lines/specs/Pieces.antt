@@ -2,7 +2,7 @@
 -- Assumes nothing.
 use Prim.Native.Nat.{ℕ, _+_, _*_, _≤_, _<_}
 use mathlib.Core.Path.{_≡_}
-use mathlib.Core.List.{List, [], _∷_, _++_, map}
+use mathlib.Core.List.{List, [], _∷_, _++_, map, flatten}
 use lib.ListN.{length, take}
 use Rattle.iscc.specs.Answer.{accept}
 use Rattle.iscc.specs.Lines.{lineProgram}
@@ -32,17 +32,13 @@ outputs line held (c ∷ cs) =
 abbrev pub wholly : List ℕ → Call
 wholly piece = record { piece = piece; room = 74 * (length piece + 1) }
 
-unfoldable pub joined : List (List ℕ) → List ℕ
-joined [] = []
-joined (p ∷ ps) = p ++ joined ps
-
 pub record AnyCut : Type 1 where
   -- what is written is the line program's answer to what was taken, with any area for the line begun, pieces and rooms
   pub program : (line : List ℕ) (cs : List Call) → outputs line 0 cs ≡ lineProgram (taken line 0 cs)
   -- so two ways to cut the same input give the same output
   pub same : (line area : List ℕ) (cs ds : List Call) → taken line 0 cs ≡ taken area 0 ds → outputs line 0 cs ≡ outputs area 0 ds
   -- pieces with room for their answers are taken whole
-  pub pieces : (line : List ℕ) (ps : List (List ℕ)) → 1024 ≤ length line → outputs line 0 (map wholly ps) ≡ lineProgram (joined ps)
+  pub pieces : (line : List ℕ) (ps : List (List ℕ)) → 1024 ≤ length line → outputs line 0 (map wholly ps) ≡ lineProgram (flatten ps)
   -- a call takes something of any piece if it has room for one answer
   pub goes : (line piece : List ℕ) (held room : ℕ) → 1024 ≤ length line → 74 ≤ room → 0 < length piece → 0 < fedBy line held piece room .used
   -- it takes no more than there is, and writes no more than there is room for

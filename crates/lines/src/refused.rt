@@ -4,8 +4,7 @@ ghost use mathlib.Core.List.{[], _∷_, _++_};
 ghost use Prim.Native.Nat.{_≤_, _<_};
 ghost use lib.ListN.{length, drop};
 ghost use Rattle.iscc.specs.Answer.{accept, refuse, areaAfter};
-ghost use Rattle.iscc.specs.Lines.{lineAnswer};
-ghost use Rattle.lines.specs.Feeding.{refusedWord};
+ghost use Rattle.iscc.specs.Lines.{refusedWord, lineAnswer};
 use crate::scan::LF;
 use iscc::refusal::Refusal;
 

@@ -22,22 +22,24 @@ use Rattle.header.specs.declared.reader.RawHeader.{RawHeader}
 use Rattle.unit.specs.declared.reader.UnitRead.{UnitRead}
 use Rattle.unit.specs.declared.reader.UnitRead.the-variants as unit
 use Rattle.unit.specs.declared.reader.Unit.{Unit}
+use Rattle.header.specs.Forms.{noFields, headerFields}
+use Rattle.unit.specs.Forms.{unitFields}
 use Rattle.unit.specs.Forms as units
 use Rattle.probe.specs.declared.headers.Fields.{Fields}
-use Rattle.probe.specs.Forms.{headerOf, noFields, headerFields, unitFields}
+use Rattle.probe.specs.Forms.{headerOf, fieldsAs}
 
-pub header-there : (r s : HeaderRead) (h : RawHeader) → r ≡ s → r ≡ header.Header h → headerFields (header.Header h) ≡ headerFields s
-header-there r s h e f = ap headerFields (sym f ∙ e)
+pub header-there : (r s : HeaderRead) (h : RawHeader) → r ≡ s → r ≡ header.Header h → fieldsAs (headerFields (header.Header h)) ≡ fieldsAs (headerFields s)
+header-there r s h e f = ap (λ (x : HeaderRead). fieldsAs (headerFields x)) (sym f ∙ e)
 
-pub header-refused : (r s : HeaderRead) (q : Refusal) (k : Fields) → r ≡ s → r ≡ header.Refused q → k ≡ noFields (q .number) → k ≡ headerFields s
-header-refused r s q k e f g = g ∙ ap headerFields (sym f ∙ e)
+pub header-refused : (r s : HeaderRead) (q : Refusal) (k : Fields) → r ≡ s → r ≡ header.Refused q → k ≡ fieldsAs (noFields (q .number)) → k ≡ fieldsAs (headerFields s)
+header-refused r s q k e f g = g ∙ ap (λ (x : HeaderRead). fieldsAs (headerFields x)) (sym f ∙ e)
 
 pub unit-there : (r s : UnitRead) (u : Unit) (m : ℕ) → r ≡ s → r ≡ unit.Unit u → m ≡ u .«main_type» .number
-    → _≡_ {A = Fields} (record { number = 0; «main_type» = m; subtype = u .subtype; version = u .version; length = u .length; used = u .used }) (unitFields s)
-unit-there r s u m e f g = rw g (ap unitFields (sym f ∙ e))
+    → _≡_ {A = Fields} (record { number = 0; «main_type» = m; subtype = u .subtype; version = u .version; length = u .length; used = u .used }) (fieldsAs (unitFields s))
+unit-there r s u m e f g = rw g (ap (λ (x : UnitRead). fieldsAs (unitFields x)) (sym f ∙ e))
 
-pub unit-refused : (r s : UnitRead) (q : Refusal) (k : Fields) → r ≡ s → r ≡ unit.Refused q → k ≡ noFields (q .number) → k ≡ unitFields s
-unit-refused r s q k e f g = g ∙ ap unitFields (sym f ∙ e)
+pub unit-refused : (r s : UnitRead) (q : Refusal) (k : Fields) → r ≡ s → r ≡ unit.Refused q → k ≡ fieldsAs (noFields (q .number)) → k ≡ fieldsAs (unitFields s)
+unit-refused r s q k e f g = g ∙ ap (λ (x : UnitRead). fieldsAs (unitFields x)) (sym f ∙ e)
 
 -- ---- the unit writer by a number
 

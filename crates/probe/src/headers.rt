@@ -4,8 +4,8 @@ ghost use lib.ListN.{length};
 ghost use Rattle.iscc.specs.Answer.{areaAfter};
 ghost use Rattle.iscc.specs.Header.{readHeader, writeHeader};
 ghost use Rattle.iscc.specs.Forms.{writtenAs, outcomeAs};
-ghost use Rattle.probe.specs.Forms.{headerFields, headerOf, noFields};
-ghost use Rattle.header.specs.Forms.{headerReadAs};
+ghost use Rattle.probe.specs.Forms.{fieldsAs, headerOf};
+ghost use Rattle.header.specs.Forms.{headerReadAs, headerFields, noFields};
 use header::Header;
 use header::reader::HeaderRead;
 use iscc::written::Outcome;
@@ -23,7 +23,7 @@ pub struct Fields {
 
 // What a refusal answers.
 pub(crate) fn refused(number: u32) -> Fields
-    ensures { λ r. ⌜ r ≡ noFields number ⌝ }
+    ensures { λ r. ⌜ r ≡ fieldsAs (noFields number) ⌝ }
 {
     Fields {
         number,
@@ -37,7 +37,7 @@ pub(crate) fn refused(number: u32) -> Fields
 
 #[no_mangle]
 pub extern "C" fn probe_header_read(bytes: &[u8]) -> Fields
-    ensures { λ r. ⌜ r ≡ headerFields (headerReadAs (readHeader (now (bytes .entry)))) ⌝ }
+    ensures { λ r. ⌜ r ≡ fieldsAs (headerFields (headerReadAs (readHeader (now (bytes .entry))))) ⌝ }
 {
     let answer = header::reader::read(bytes);
     match answer {

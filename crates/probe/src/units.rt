@@ -4,8 +4,8 @@ ghost use lib.ListN.{length};
 ghost use Rattle.iscc.specs.Answer.{areaAfter};
 ghost use Rattle.iscc.specs.Item.{readItem, writeUnit};
 ghost use Rattle.iscc.specs.Forms.{writtenAs, outcomeAs};
-ghost use Rattle.probe.specs.Forms.{unitFields, headerOf};
-ghost use Rattle.unit.specs.Forms.{unitReadAs};
+ghost use Rattle.probe.specs.Forms.{fieldsAs, headerOf};
+ghost use Rattle.unit.specs.Forms.{unitReadAs, unitFields};
 use crate::headers::Fields;
 use iscc::main_type::MainType;
 use iscc::main_type::Named;
@@ -14,7 +14,7 @@ use unit::reader::UnitRead;
 
 #[no_mangle]
 pub extern "C" fn probe_unit_read(bytes: &[u8]) -> Fields
-    ensures { λ r. ⌜ r ≡ unitFields (unitReadAs (readItem (now (bytes .entry)))) ⌝ }
+    ensures { λ r. ⌜ r ≡ fieldsAs (unitFields (unitReadAs (readItem (now (bytes .entry))))) ⌝ }
 {
     let answer = unit::reader::read(bytes);
     match answer {

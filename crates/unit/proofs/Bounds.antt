@@ -12,14 +12,13 @@ use Rattle.iscc.specs.Header.{Header}
 use Rattle.iscc.specs.Permitted.{MainType, number, typeOf, permits, bodyBytes}
 use Rattle.iscc.specs.Item.{Item, readItem}
 use Rattle.iscc.specs.Forms.{mainTypeAs}
-use Rattle.iscc.proofs.Permitted.{number-small, Small, small, body-most}
+use Rattle.iscc.proofs.Permitted.{number-small, type-number, Small, small, body-most}
 use Rattle.iscc.proofs.Item.{Behind, parsedItem, behind-header}
 use Rattle.header.proofs.Bounds.{header-bounds}
 use Rattle.unit.specs.declared.reader.Unit as code
 use Rattle.unit.specs.declared.reader.UnitRead.{UnitRead}
 use Rattle.unit.specs.declared.reader.UnitRead.the-variants as read
 use Rattle.unit.specs.Forms.{unitAs, unitReadAs}
-use Rattle.unit.proofs.Read.{type-number}
 
 -- an item that was read: a header of two bytes, then its body
 pub record ItemBounds (bs : List ℕ) (g : Parsed Item) : Type 0 where

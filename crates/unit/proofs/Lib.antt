@@ -2,6 +2,5 @@
 pub mod Table
 pub mod Read
 pub mod Bounds
-pub mod Sole
-pub mod Parts
+pub mod ExactlyOne
 pub mod Write

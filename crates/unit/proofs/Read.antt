@@ -1,6 +1,6 @@
 -- What the reader's tests say of `readItem`. Assumes nothing.
 use Prim.Native.Nat.{ℕ, _+_, _-_, _≤_, _<_}
-use mathlib.Core.Path.{_≡_, refl, sym, _∙_, ap, subst}
+use mathlib.Core.Path.{_≡_, sym, _∙_, ap, subst}
 use mathlib.Core.Bool.{Bool, true, false, not}
 use mathlib.Core.List.{List}
 use native.Mathlib.Omega.{arith}
@@ -19,7 +19,7 @@ use Rattle.iscc.specs.Forms.{mainTypeAs, namedAs}
 use Rattle.iscc.specs.declared.main_type.MainType.{MainType}
 use Rattle.iscc.specs.declared.main_type.Named.{Named}
 use Rattle.iscc.specs.declared.main_type.Named.the-variants as named
-use Rattle.iscc.proofs.Permitted.{number-small, small}
+use Rattle.iscc.proofs.Permitted.{number-small, type-number, small}
 use Rattle.header.specs.declared.reader.RawHeader.{RawHeader}
 use Rattle.header.specs.declared.reader.HeaderRead.{HeaderRead}
 use Rattle.header.specs.declared.reader.HeaderRead.the-variants as header
@@ -29,16 +29,6 @@ use Rattle.unit.specs.declared.reader.UnitRead.the-variants.{Unit, Refus
 use Rattle.unit.specs.Forms.{permitsAs, unitReadAs}
 
 -- what `MainType::from_number` tells
-pub type-number : (m : permitted.MainType) → typeOf (number m) ≡ m
-unfolding typeOf
-type-number permitted.META = refl
-type-number permitted.SEMANTIC = refl
-type-number permitted.CONTENT = refl
-type-number permitted.DATA = refl
-type-number permitted.INSTANCE = refl
-type-number permitted.ISCC = refl
-type-number permitted.ID = refl
-
 pub record Known (r : Answer permitted.MainType) (m : MainType) : Type 0 where
   pub is : r ≡ accept (typeOf (m .number))
   pub same : mainTypeAs (typeOf (m .number)) ≡ m

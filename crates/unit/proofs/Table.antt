@@ -1,15 +1,18 @@
 -- The table of permitted headers by the number of a main type. Assumes nothing.
-use Prim.Native.Nat.{ℕ, zero, suc, _+_, _*_, _≤_, _<_}
+use Prim.Native.Nat.{ℕ, zero, suc, _+_, _*_, _<_}
 use mathlib.Core.Path.{_≡_, refl, sym, _∙_}
-use mathlib.Core.Bool.{Bool, true, false, _&&_, and-true, and-false}
+use mathlib.Core.Bool.{Bool, true, false, not, _&&_, and-true, and-false}
 use native.Mathlib.Omega.{arith}
+use native.Mathlib.Decide.{decLt}
 use lib.Dec.{eqb, leb, ltb}
-use borrow.Author.Tests.{lt-ltb, le-ltb, ne-eqb, eq-eqb, eqb-true, eqb-false, le-leb, lt-leb}
-use Rattle.iscc.specs.Permitted.{typeOf, compositeSubtype, row, setOf, bodyBytes}
+use borrow.Author.Tests.{lt-ltb, le-ltb, ne-eqb, eqb-true, eqb-false, lt-leb, not-true, not-false}
+use Rattle.iscc.specs.Permitted.{ISCC, number, typeOf, compositeSubtype, row, setOf, bodyBytes}
+use Rattle.iscc.specs.Permitted as permitted
 use Rattle.iscc.specs.declared.main_type.MainType.{MainType}
 use Rattle.iscc.specs.declared.tables.UnitSet.{UnitSet}
 use Rattle.iscc.specs.Forms.{unitSetAs}
-use Rattle.unit.specs.Forms.{permitsAs}
+use Rattle.iscc.proofs.Permitted.{number-small, type-number}
+use Rattle.unit.specs.Forms.{inRow, permitsAs}
 
 -- the seven numbers
 pub seven : (P : ℕ → Type 0) → P 0 → P 1 → P 2 → P 3 → P 4 → P 5 → P 6 → (n : ℕ) → n < 7 → P n
@@ -33,53 +36,59 @@ is-yes n k e h = eqb-true n k (sym e ∙ h)
 pub is-no : {t : Bool} (n k : ℕ) → t ≡ eqb n k → t ≡ false → n ≡ k → ⊥
 is-no n k e h = eqb-false n k (sym e ∙ h)
 
--- the rows by number
-module _ (n s l : ℕ) {t : Bool} where
-  pub row-semantic : {r : Bool} → t ≡ eqb n 1 → t ≡ true → r ≡ (leb s 4 && leb l 7) → r ≡ row (typeOf n) s l
-  unfolding row typeOf
-  row-semantic e h g = g ∙ rw (is-yes n 1 e h)
+-- a main type with the number of k has k's row
+module _ (k : permitted.MainType) (m : MainType) (s l : ℕ) {t r : Bool} (e : t ≡ eqb (m .number) (number k)) (h : t ≡ true) where
+  pub row-at : r ≡ row k s l → r ≡ inRow m s l
+  unfolding inRow
+  row-at g = g ∙ rw (is-yes (m .number) (number k) e h, lt-ltb (number k) 7 (omega (arith, number-small k)), type-number k)
 
-  pub row-content : {r : Bool} → t ≡ eqb n 2 → t ≡ true → r ≡ (leb s 4 && leb l 7) → r ≡ row (typeOf n) s l
-  unfolding row typeOf
-  row-content e h g = g ∙ rw (is-yes n 2 e h)
+  -- META, DATA and INSTANCE, which have subtype 0 alone
+  pub row-at-0 : row k s l ≡ (eqb s 0 && leb l 7) → r ≡ (leb s 0 && leb l 7) → r ≡ inRow m s l
+  row-at-0 f g = row-at (g ∙ rw (at-most-0 s, f))
 
-  pub row-long : t ≡ eqb n 5 → t ≡ true → 7 < l → false ≡ row (typeOf n) s l
-  unfolding row typeOf
-  row-long e h g = rw (is-yes n 5 e h, lt-leb l 7 g) (sym (and-false (compositeSubtype l s)))
+none-of-seven : (n : ℕ) → (n ≡ 0 → ⊥) → (n ≡ 1 → ⊥) → (n ≡ 2 → ⊥) → (n ≡ 3 → ⊥) → (n ≡ 4 → ⊥) → (n ≡ 5 → ⊥) → (n ≡ 6 → ⊥) → ltb n 7 ≡ false
+none-of-seven n a b c d e f g =
+    elim (decLt n 7) [
+      | yes h ↦ absurd (seven (λ k. k ≡ n → ⊥) (λ x. a (sym x)) (λ x. b (sym x)) (λ x. c (sym x)) (λ x. d (sym x)) (λ x. e (sym x)) (λ x. f (sym x)) (λ x. g (sym x)) n h refl)
+      | no h ↦ le-ltb n 7 (omega arith)
+    ]
 
-  pub row-composite : {r : Bool} → t ≡ eqb n 5 → t ≡ true → l ≤ 7 → r ≡ compositeSubtype l s → r ≡ row (typeOf n) s l
-  unfolding row typeOf
-  row-composite e h k g = g ∙ rw (is-yes n 5 e h, le-leb l 7 k) (sym (and-true (compositeSubtype l s)))
+pub row-none : (m : MainType) (s l : ℕ) {t₀ t₁ t₂ t₃ t₄ t₅ t₆ : Bool} → t₀ ≡ eqb (m .number) 0 → t₀ ≡ false → t₁ ≡ eqb (m .number) 1 → t₁ ≡ false
+    → t₂ ≡ eqb (m .number) 2 → t₂ ≡ false → t₃ ≡ eqb (m .number) 3 → t₃ ≡ false → t₄ ≡ eqb (m .number) 4 → t₄ ≡ false
+    → t₅ ≡ eqb (m .number) 5 → t₅ ≡ false → t₆ ≡ eqb (m .number) 6 → t₆ ≡ false → false ≡ inRow m s l
+unfolding inRow
+row-none m s l a a′ b b′ c c′ d d′ e e′ f f′ g g′ =
+    let n : ℕ = m .number in
+    rw (none-of-seven n (is-no n 0 a a′) (is-no n 1 b b′) (is-no n 2 c c′) (is-no n 3 d d′) (is-no n 4 e e′) (is-no n 5 f f′) (is-no n 6 g g′))
 
-  pub row-id : {r : Bool} → t ≡ eqb n 6 → t ≡ true → r ≡ (leb s 5 && leb l 4) → r ≡ row (typeOf n) s l
-  unfolding row typeOf
-  row-id e h g = g ∙ rw (is-yes n 6 e h)
+-- a composite's row
+module _ (s l : ℕ) where
+  pub composite-0 : l ≡ 0 → eqb s 5 ≡ row ISCC s l
+  unfolding row compositeSubtype
+  composite-0 e = rw e (sym (and-true (eqb s 5)))
 
--- META, DATA and INSTANCE
-rest : (s l n : ℕ) → n < 7 → (n ≡ 1 → ⊥) → (n ≡ 2 → ⊥) → (n ≡ 5 → ⊥) → (n ≡ 6 → ⊥) → (eqb s 0 && leb l 7) ≡ row (typeOf n) s l
-unfolding row typeOf
-rest s l =
-    seven (λ n. (n ≡ 1 → ⊥) → (n ≡ 2 → ⊥) → (n ≡ 5 → ⊥) → (n ≡ 6 → ⊥) → (eqb s 0 && leb l 7) ≡ row (typeOf n) s l)
-    (λ _ _ _ _. refl) (λ a _ _ _. absurd (a refl)) (λ _ b _ _. absurd (b refl)) (λ _ _ _ _. refl) (λ _ _ _ _. refl)
-    (λ _ _ c _. absurd (c refl)) (λ _ _ _ d. absurd (d refl))
+  pub composite-4 : l ≡ 4 → eqb s 6 ≡ row ISCC s l
+  unfolding row compositeSubtype
+  composite-4 e = rw e (sym (and-true (eqb s 6)))
 
-pub row-other : (n s l : ℕ) {t₁ t₂ t₅ t₆ r : Bool} → n < 7 → t₁ ≡ eqb n 1 → t₁ ≡ false → t₂ ≡ eqb n 2 → t₂ ≡ false → t₅ ≡ eqb n 5 → t₅ ≡ false
-    → t₆ ≡ eqb n 6 → t₆ ≡ false → r ≡ (leb s 0 && leb l 7) → r ≡ row (typeOf n) s l
-row-other n s l h a a′ b b′ c c′ d d′ g =
-    g ∙ rw (at-most-0 s) (rest s l n h (is-no n 1 a a′) (is-no n 2 b b′) (is-no n 5 c c′) (is-no n 6 d d′))
+  pub composite-other : {r : Bool} → (l ≡ 0 → ⊥) → (l ≡ 4 → ⊥) → r ≡ (leb s 4 && leb l 7) → r ≡ row ISCC s l
+  unfolding row compositeSubtype
+  composite-other a b g = g ∙ rw (ne-eqb l 0 a, ne-eqb l 4 b)
+
+-- the definition tests the version before the row
+permits-by : (a b c : Bool) → a && (b && c) ≡ (a && c) && b
+permits-by true true c = sym (and-true c)
+permits-by true false c = sym (and-false c)
+permits-by false b c = refl
 
 module _ (m : MainType) (s v l : ℕ) where
-  pub permits-none : {k : ℕ} → k ≡ m .number → 7 ≤ k → false ≡ permitsAs m s v l
-  unfolding permitsAs
-  permits-none e h = rw (le-ltb (m .number) 7 (omega arith))
+  pub permits-not : {r : Bool} → r ≡ inRow m s l → not r ≡ true → false ≡ permitsAs m s v l
+  unfolding inRow permitsAs
+  permits-not {r} e n = sym (permits-by (ltb (m .number) 7) (eqb v 0) (row (typeOf (m .number)) s l) ∙ rw (← e, not-true r n))
 
-  pub permits-version : (v ≡ 0 → ⊥) → false ≡ permitsAs m s v l
-  unfolding permitsAs
-  permits-version z = rw (ne-eqb v 0 z) (sym (and-false (ltb (m .number) 7)))
-
-  pub permits-row : {k : ℕ} {r : Bool} → k ≡ m .number → k < 7 → v ≡ 0 → r ≡ row (typeOf (m .number)) s l → r ≡ permitsAs m s v l
-  unfolding permitsAs
-  permits-row e h z g = g ∙ rw (lt-ltb (m .number) 7 (omega arith), eq-eqb v 0 z)
+  pub permits-version : {r : Bool} → r ≡ inRow m s l → not r ≡ false → eqb v 0 ≡ permitsAs m s v l
+  unfolding inRow permitsAs
+  permits-version {r} e n = sym (permits-by (ltb (m .number) 7) (eqb v 0) (row (typeOf (m .number)) s l) ∙ rw (← e, not-false r n))
 
 -- the bodies by number
 module _ (n s l : ℕ) {t : Bool} where

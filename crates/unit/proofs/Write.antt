@@ -18,7 +18,7 @@ use Rattle.iscc.specs.Forms.{writtenAs}
 use Rattle.iscc.specs.declared.main_type.MainType.{MainType}
 use Rattle.iscc.specs.declared.written.Written.{Written}
 use Rattle.iscc.specs.declared.written.Written.the-variants.{Length, Refused}
-use Rattle.iscc.proofs.Booleans.{and-true}
+use Rattle.iscc.proofs.Booleans.{both-true}
 use Rattle.iscc.proofs.Header.{length-short, raw-header}
 use Rattle.iscc.proofs.Permitted.{Small, small}
 use Rattle.unit.specs.Forms.{permitsAs, headerOf}
@@ -41,7 +41,7 @@ unnamed n h = rw (le-ltb n 7 h)
 module _ (m : MainType) (s v l : ℕ) {p : Bool} (e : p ≡ permitsAs m s v l) (ok : not p ≡ false) where
   both : (ltb (m .number) 7 ≡ true) × (permits (typeOf (m .number)) s v l ≡ true)
   unfolding permitsAs
-  both = and-true (ltb (m .number) 7) _ (sym e ∙ not-false p ok)
+  both = both-true (ltb (m .number) 7) _ (sym e ∙ not-false p ok)
 
   pub type-small : m .number < 7
   type-small = ltb-true (m .number) 7 (both .0)

@@ -7,15 +7,20 @@ use lib.ListN.{length}
 use Rattle.iscc.specs.Answer.{Answer, accept, refuse}
 use Rattle.iscc.specs.Varnibble.{Parsed}
 use Rattle.iscc.specs.Header.{Header}
-use Rattle.iscc.specs.Permitted.{typeOf, permits}
+use Rattle.iscc.specs.Permitted.{typeOf, row, permits}
 use Rattle.iscc.specs.Item.{Item}
 use Rattle.iscc.specs.Forms.{mainTypeAs}
 use Rattle.iscc.specs.declared.main_type.MainType.{MainType}
+use Rattle.header.specs.Forms.{Fields, noFields}
 use Rattle.unit.specs.declared.reader.Unit as code
 use Rattle.unit.specs.declared.reader.UnitRead.{UnitRead}
 use Rattle.unit.specs.declared.reader.UnitRead.the-variants as read
 
--- whether the table permits a header; a number that names no main type has none
+-- the table's row of a main type; a number that names none has no row
+unfoldable pub inRow : MainType → ℕ → ℕ → Bool
+inRow m s l = ltb (m .number) 7 && row (typeOf (m .number)) s l
+
+-- whether the table permits a header
 unfoldable pub permitsAs : MainType → ℕ → ℕ → ℕ → Bool
 permitsAs m s v l = ltb (m .number) 7 && permits (typeOf (m .number)) s v l
 
@@ -39,6 +44,19 @@ unitAs g =
 abbrev pub unitReadAs : Answer (Parsed Item) → UnitRead
 unitReadAs (accept g) = read.Unit (unitAs g)
 unitReadAs (refuse q) = read.Refused q
+
+-- document 01's numbers for each case of the readers' answers
+abbrev pub unitFields : UnitRead → Fields
+unitFields (read.Unit u) =
+    record {
+      number = 0;
+      mainType = u .«main_type» .number;
+      subtype = u .subtype;
+      version = u .version;
+      lengthNumber = u .length;
+      used = u .used;
+    }
+unitFields (read.Refused q) = noFields (q .number)
 
 -- the answer of the reader of exactly one: it uses all the bytes
 abbrev pub oneReadAs : List ℕ → Answer Item → UnitRead

@@ -14,10 +14,10 @@ pub fn read(bytes: &[u8]) -> UnitRead
     match answer {
         UnitRead::Refused(q) => UnitRead::Refused(q),
         UnitRead::Unit(u) => {
-            if u.used < bytes.len() {
-                return UnitRead::Refused(Refusal::BYTES_LEFT_OVER);
+            if bytes.len() <= u.used {
+                return UnitRead::Unit(u);
             }
-            UnitRead::Unit(u)
+            UnitRead::Refused(Refusal::BYTES_LEFT_OVER)
         }
     }
 }

@@ -3,8 +3,8 @@ ghost use mathlib.Core.Path.{_≡_};
 ghost use Prim.Native.Nat.{_≤_, _<_};
 ghost use mathlib.Core.Bool.{_&&_};
 ghost use lib.Dec.{leb};
-ghost use Rattle.iscc.specs.Permitted.{typeOf, compositeSubtype, row, bodyBytes};
-ghost use Rattle.unit.specs.Forms.{permitsAs};
+ghost use Rattle.iscc.specs.Permitted.{ISCC, typeOf, row, bodyBytes};
+ghost use Rattle.unit.specs.Forms.{inRow, permitsAs};
 use iscc::main_type::MainType;
 use iscc::tables;
 
@@ -18,9 +18,9 @@ fn at_most(subtype: u32, highest: u32, length: u32, longest: u32) -> bool
     length <= longest
 }
 
-// A composite's subtype: 5 for length 0, 6 for length 4, and otherwise 0 to 4.
-fn composite_subtype(length: u32, subtype: u32) -> bool
-    ensures { λ r. ⌜ r ≡ compositeSubtype length subtype ⌝ }
+// A composite's row: subtype 5 for length 0, 6 for length 4, and otherwise 0 to 4.
+fn composite_row(subtype: u32, length: u32) -> bool
+    ensures { λ r. ⌜ r ≡ row ISCC subtype length ⌝ }
 {
     if length == 0 {
         return subtype == 5;
@@ -28,43 +28,45 @@ fn composite_subtype(length: u32, subtype: u32) -> bool
     if length == 4 {
         return subtype == 6;
     }
-    subtype <= 4
+    at_most(subtype, 4, length, 7)
 }
 
-// The table's rows: subtype and length number of a main type.
+// The table's rows: subtype and length number of a main type. A main type without a row has neither.
 fn in_row(main_type: MainType, subtype: u32, length: u32) -> bool
-    requires { ⌜ «main_type» .number < 7 ⌝ }
-    ensures { λ r. ⌜ r ≡ row (typeOf («main_type» .number)) subtype length ⌝ }
+    ensures { λ r. ⌜ r ≡ inRow «main_type» subtype length ⌝ }
 {
+    if main_type.is(MainType::META) {
+        return at_most(subtype, 0, length, 7);
+    }
     if main_type.is(MainType::SEMANTIC) {
         return at_most(subtype, 4, length, 7);
     }
     if main_type.is(MainType::CONTENT) {
         return at_most(subtype, 4, length, 7);
     }
+    if main_type.is(MainType::DATA) {
+        return at_most(subtype, 0, length, 7);
+    }
+    if main_type.is(MainType::INSTANCE) {
+        return at_most(subtype, 0, length, 7);
+    }
     if main_type.is(MainType::ISCC) {
-        if 7 < length {
-            return false;
-        }
-        return composite_subtype(length, subtype);
+        return composite_row(subtype, length);
     }
     if main_type.is(MainType::ID) {
         return at_most(subtype, 5, length, 4);
     }
-    at_most(subtype, 0, length, 7)
+    false
 }
 
 // Whether the table permits a header. Version is always 0.
 pub fn permits(main_type: MainType, subtype: u32, version: u32, length: u32) -> bool
     ensures { λ r. ⌜ r ≡ permitsAs «main_type» subtype version length ⌝ }
 {
-    if 7 <= main_type.number() {
+    if !in_row(main_type, subtype, length) {
         return false;
     }
-    if version != 0 {
-        return false;
-    }
-    in_row(main_type, subtype, length)
+    version == 0
 }
 
 // The bytes of a body, by the same columns.

@@ -42,17 +42,17 @@ fn item_of(bytes: &[u8], raw: RawHeader) -> UnitRead
             }
             let start = raw.used;
             let used = start + permitted::body_bytes(m, h.subtype, h.length);
-            if bytes.len() < used {
-                return UnitRead::Refused(Refusal::SHORT_BODY);
+            if used <= bytes.len() {
+                return UnitRead::Unit(Unit {
+                    main_type: m,
+                    subtype: h.subtype,
+                    version: h.version,
+                    length: h.length,
+                    start,
+                    used,
+                });
             }
-            UnitRead::Unit(Unit {
-                main_type: m,
-                subtype: h.subtype,
-                version: h.version,
-                length: h.length,
-                start,
-                used,
-            })
+            UnitRead::Refused(Refusal::SHORT_BODY)
         }
     }
 }

@@ -11,10 +11,9 @@ use lib.Seq.{getD-set-same, getD-set-other}
 use lib.Dec.{eqb}
 use borrow.Author.Tests.{eq-eqb, ne-eqb, eqb-true, eqb-false}
 use Rattle.iscc.specs.Permitted.{MainType, META, SEMANTIC, CONTENT, DATA, INSTANCE, ISCC, ID, number}
-use Rattle.iscc.specs.Meaning.{isIn}
 use Rattle.iscc.specs.Item.{Item}
 use Rattle.iscc.specs.Lists.{every, pairwise, firstNot, firstClash}
-use Rattle.iscc.specs.Items.{sameType, joinable, is64Bits, otherType, sharedSubtype, bodyIn, has}
+use Rattle.iscc.specs.Items.{sameType, joinable, is64Bits, otherType, sharedSubtype, bodyIn, isIn, has}
 use Rattle.iscc.proofs.Permitted.{number-small}
 use Rattle.iscc.proofs.Items.{sameType-eq}
 use Rattle.iscc.proofs.Lists.{firstNot-end, firstNot-snoc, firstClash-end, firstClash-snoc}

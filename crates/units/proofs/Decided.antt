@@ -11,7 +11,7 @@ use Rattle.iscc.specs.Refusals.{notJoinable, not64Bits, mainTypeTwice, lacksDat
 use Rattle.iscc.specs.Permitted.{DATA, INSTANCE}
 use Rattle.iscc.specs.Item.{Item}
 use Rattle.iscc.specs.Lists.{every, pairwise}
-use Rattle.iscc.specs.Items.{joinable, is64Bits, otherType, sharedSubtype, bodyIn, orMissing, compositeFrom}
+use Rattle.iscc.specs.Items.{joinable, is64Bits, otherType, sharedSubtype, bodyIn, compositeFrom}
 use Rattle.iscc.proofs.Lists.{firstNot-end, firstClash-end}
 use Rattle.units.specs.declared.summary.Summary.{Summary}
 use Rattle.units.specs.declared.verdict.Verdict.the-variants.{Composite, Refused}
@@ -56,7 +56,7 @@ module _ (bs : List ℕ) (is : List Item) (l : Summary) (s : Summarizes bs is l)
 
       module _ (o : l .repeated ≡ l .count) where
         pub refused-data : getD (l .places) 3 0 ≡ 0 → Refused lacksDataOrInstance 3 ≡ verdictOf is
-        unfolding verdictOf brokenAt compositeFrom orMissing
+        unfolding verdictOf brokenAt compositeFrom
         refused-data z =
             rw (joinable-is, eq-eqb _ _ j, eight-is, eq-eqb _ _ e, once-is, eq-eqb _ _ o, no-body bs (bodyIn DATA is) (getD (l .places) 3 0) (s .places DATA) z)
 
@@ -65,7 +65,7 @@ module _ (bs : List ℕ) (is : List Item) (l : Summary) (s : Summarizes bs is l)
           dataBody = some-body bs (bodyIn DATA is) (getD (l .places) 3 0) (s .places DATA) d
 
           pub refused-instance : getD (l .places) 4 0 ≡ 0 → Refused lacksDataOrInstance 4 ≡ verdictOf is
-          unfolding verdictOf brokenAt compositeFrom orMissing
+          unfolding verdictOf brokenAt compositeFrom
           refused-instance z =
               rw (joinable-is, eq-eqb _ _ j, eight-is, eq-eqb _ _ e, once-is, eq-eqb _ _ o, dataBody .1, no-body bs (bodyIn INSTANCE is) (getD (l .places) 4 0) (s .places INSTANCE) z)
 
@@ -74,11 +74,11 @@ module _ (bs : List ℕ) (is : List Item) (l : Summary) (s : Summarizes bs is l)
             instanceBody = some-body bs (bodyIn INSTANCE is) (getD (l .places) 4 0) (s .places INSTANCE) i
 
             pub refused-14 : (l .clash ≡ l .count → ⊥) → Refused subtypesDiffer (l .clash) ≡ verdictOf is
-            unfolding verdictOf brokenAt compositeFrom orMissing
+            unfolding verdictOf brokenAt compositeFrom
             refused-14 n =
                 rw (joinable-is, eq-eqb _ _ j, eight-is, eq-eqb _ _ e, once-is, eq-eqb _ _ o, dataBody .1, instanceBody .1, shared-is, ne-eqb _ _ n, s .clash)
 
             pub makes-one : l .clash ≡ l .count → Composite ≡ verdictOf is
-            unfolding verdictOf brokenAt compositeFrom orMissing
+            unfolding verdictOf brokenAt compositeFrom
             makes-one k =
                 rw (joinable-is, eq-eqb _ _ j, eight-is, eq-eqb _ _ e, once-is, eq-eqb _ _ o, dataBody .1, instanceBody .1, shared-is, eq-eqb _ _ k)

@@ -5,7 +5,7 @@ use mathlib.Core.Bool.{false}
 use mathlib.Core.List.{List, [], _∷_, _++_, append-assoc}
 use native.Mathlib.Omega.{arith}
 use lib.ListN.{length, take, drop, length-append, length-drop}
-use lib.Seq.{drop-drop, take-all}
+use lib.Seq.{drop-drop}
 use lib.Dec.{leb}
 use borrow.Author.Tests.{le-leb, lt-leb}
 use Rattle.iscc.specs.Refusals.{Refusal}
@@ -16,6 +16,7 @@ use Rattle.iscc.specs.Item.{Item, readItem}
 use Rattle.iscc.specs.Items.{readUpTo, readItems}
 use Rattle.iscc.proofs.Answer.{accept-inj}
 use Rattle.iscc.proofs.Permitted.{number-small}
+use Rattle.iscc.proofs.Parts.{rest-is}
 use Rattle.units.specs.declared.summary.Summary.{Summary}
 use Rattle.units.specs.declared.reader.Reading.{Reading}
 use Rattle.units.specs.declared.reader.Reading.the-variants as Reading
@@ -27,10 +28,6 @@ use Rattle.unit.proofs.Bounds.{ItemBounds, item-bounds}
 use Rattle.units.specs.Summary.{Summarizes, none, added}
 use Rattle.units.specs.Reading.{refusedUpTo, refusedIndex, readingAs}
 use Rattle.units.proofs.Added.{added-is, none-is}
-
--- the part of the bytes from a place on
-pub rest-is : (bs : List ℕ) (at : ℕ) → take (length bs - at) (drop at bs) ≡ drop at bs
-rest-is bs at = take-all (length bs - at) (drop at bs) (omega (arith, length-drop at bs))
 
 -- ---- the items so far
 

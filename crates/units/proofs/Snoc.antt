@@ -1,17 +1,16 @@
 -- A list of items with one more behind: what its tests and its searches say. Assumes nothing.
 use Prim.Native.Nat.{ℕ}
 use mathlib.Core.Path.{_≡_, refl, _∙_}
-use mathlib.Core.Bool.{Bool, true, false, cond, not, _&&_, _||_}
+use mathlib.Core.Bool.{Bool, true, false, cond, not, _&&_, _||_, or-true}
 use mathlib.Core.Option.{none, some}
 use mathlib.Core.List.{List, [], _∷_, _++_}
 use lib.Dec.{eqb}
 use borrow.Author.Tests.{eqb-true}
 use Rattle.iscc.specs.Permitted.{MainType, META, SEMANTIC, CONTENT, DATA, INSTANCE, ISCC, ID, number}
-use Rattle.iscc.specs.Meaning.{isIn}
 use Rattle.iscc.specs.Item.{Item}
 use Rattle.iscc.specs.Lists.{every, pairwise}
-use Rattle.iscc.specs.Items.{sameType, otherType, hasSubtype, sharedSubtype, bodyIn, has}
-use Rattle.iscc.proofs.Booleans.{and-true}
+use Rattle.iscc.specs.Items.{sameType, otherType, hasSubtype, sharedSubtype, bodyIn, isIn, has}
+use Rattle.iscc.proofs.Booleans.{both-true}
 use Rattle.iscc.proofs.Order.{eqb-comm}
 use Rattle.iscc.proofs.Lists.{every-true, every-same}
 use Rattle.units.specs.Summary.{firstSubtype}
@@ -42,10 +41,6 @@ others (x ∷ is) i = rw (eqb-comm (number (x .mainType)) (number (i .mainType))
 
 abbrev pub subtyped : List Item → Bool
 subtyped is = has SEMANTIC is || has CONTENT is
-
-or-true : (b : Bool) → b || true ≡ true
-or-true true = refl
-or-true false = refl
 
 -- m is in a list with an item of main type n in front
 abbrev inFront : Item → List Item → MainType → MainType → Bool
@@ -80,7 +75,7 @@ firstSubtype-snoc (x ∷ is) i = rw (subtyped-cons x is) (go (hasSubtype x) (has
 every-imp : {A : Type 0} (p q : A → Bool) → ((x : A) → p x ≡ true → q x ≡ true) → (xs : List A) → every p xs ≡ true → every q xs ≡ true
 unfolding every
 every-imp p q f [] e = refl
-every-imp p q f (x ∷ xs) e = let w = and-true (p x) (every p xs) e in rw (f x (w .0), every-imp p q f xs (w .1))
+every-imp p q f (x ∷ xs) e = let w = both-true (p x) (every p xs) e in rw (f x (w .0), every-imp p q f xs (w .1))
 
 -- whether e goes with an item of subtype s, that is a SEMANTIC or CONTENT unit or not
 abbrev goesWith : Bool → ℕ → Item → Bool
@@ -105,7 +100,7 @@ all-go : (s : ℕ) (is : List Item) → pairwise sharedSubtype is ≡ true → e
 unfolding every pairwise firstSubtype bodyIn
 all-go s [] e = refl
 all-go s (x ∷ is) e =
-    let w = and-true (every (sharedSubtype x) is) (pairwise sharedSubtype is) e in
+    let w = both-true (every (sharedSubtype x) is) (pairwise sharedSubtype is) e in
     rw (subtyped-cons x is) (go (hasSubtype x) refl (w .0) (all-go s is (w .1)))
   where
     here : (b : Bool) → hasSubtype x ≡ true → eqb (x .subtype) s ≡ b → every (sharedSubtype x) is ≡ true → b && every (goesWith true s) is ≡ b

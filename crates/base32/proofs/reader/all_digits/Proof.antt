@@ -26,7 +26,7 @@ loop-again : tie.Need-loop-again Inv-loop μ-loop
 loop-again c =
     let d = c .before in
     let s = d .before .before .before .loop .inv in
-    ⊎-elim (λ w. rw (w .1) (largest-new _ s (search needs) (d .outside .ensures) (w .0 .taken))) (λ w. rw (w .1) (largest-kept _ s (search needs) (d .outside .ensures) (w .0 .left))) (c .if1 .came)
+    ⊎-elim (λ w. rw (w .1) (largest-new _ s (search needs) (d .outside-alphabet .ensures) (w .0 .taken))) (λ w. rw (w .1) (largest-kept _ s (search needs) (d .outside-alphabet .ensures) (w .0 .left))) (c .if1 .came)
 
 returns : tie.Need-returns Inv-loop μ-loop
 unfolding base32

@@ -7,23 +7,23 @@ use borrow.Author.Needs.{needs}
 use borrow.Author.Tests.{lt-ltb, leb-true, eqb-true}
 use Rattle.iscc.specs.Alphabet.{upper, indexOf, digitIn}
 use Rattle.iscc.specs.Base32.{base32}
-use Rattle.iscc.proofs.Booleans.{and-true}
+use Rattle.iscc.proofs.Booleans.{both-true}
 use Rattle.iscc.proofs.Table.{upTo, at}
 use Rattle.base32.proofs.reader.digit.Statement.{statement}
 use Rattle.base32.proofs.reader.digit.Tie as tie
 
 -- of a byte that has a digit
-right : ℕ → Bool
-right c = not (ltb (digitIn base32 c) 32) || (leb (c / 64 * 9) (c % 32 + 8) && eqb (c % 32 + 8 - c / 64 * 9) (digitIn base32 c))
+agrees : ℕ → Bool
+agrees c = not (ltb (digitIn base32 c) 32) || (leb (c / 64 * 9) (c % 32 + 8) && eqb (c % 32 + 8 - c / 64 * 9) (digitIn base32 c))
 
-computed : upTo 256 right ≡ true
-unfolding upTo right upper indexOf digitIn base32
+computed : upTo 256 agrees ≡ true
+unfolding upTo agrees upper indexOf digitIn base32
 computed = refl
 
 by-bits : (c : ℕ) → c < 256 → digitIn base32 c < 32 → (c / 64 * 9 ≤ c % 32 + 8) × (c % 32 + 8 - c / 64 * 9 ≡ digitIn base32 c)
-unfolding right
+unfolding agrees
 by-bits c h d =
-    let p = and-true (leb (c / 64 * 9) (c % 32 + 8)) (eqb (c % 32 + 8 - c / 64 * 9) (digitIn base32 c)) (rw (lt-ltb (digitIn base32 c) 32 d) at (at 256 right computed c h)) in
+    let p = both-true (leb (c / 64 * 9) (c % 32 + 8)) (eqb (c % 32 + 8 - c / 64 * 9) (digitIn base32 c)) (rw (lt-ltb (digitIn base32 c) 32 d) at (at 256 agrees computed c h)) in
     (leb-true (c / 64 * 9) (c % 32 + 8) (p .0), eqb-true (c % 32 + 8 - c / 64 * 9) (digitIn base32 c) (p .1))
 
 sub-result : tie.Need-sub-result

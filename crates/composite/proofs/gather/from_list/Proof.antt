@@ -20,7 +20,7 @@ returns c = λ m k.
     c .made .ensures
     ∙ ap (λ (x : ℕ). parts x (c .before .subtype-of .result) (c .before .before .rows-of .result)) n
     ∙ ap (λ (x : ℕ). parts (setNumber (setAt (c .before .before .before .before .before .before .before .args .list .places))) x (c .before .before .rows-of .result)) (c .before .subtype-of .ensures)
-    ∙ list-made _ _ m k _ _ (c .before .before .before .unit-set .ensures .0 ∙ ap (λ (x : ℕ). unitSetAs (setOf x)) n) (c .before .before .rows-of .ensures)
+    ∙ list-made _ _ m k _ (c .before .before .before .unit-set .ensures .0 ∙ ap (λ (x : ℕ). unitSetAs (setOf x)) n) _ (c .before .before .rows-of .ensures)
 
 pub from-list-spec : {M : Type 1} → statement M
 from-list-spec =

@@ -1,7 +1,7 @@
 -- `split` meets its contract. Assumes nothing.
 use mathlib.Core.Path.{refl, _∙_, sym}
 use Rattle.iscc.proofs.Lent.{refused}
-use Rattle.unit.proofs.Sole.{one-not}
+use Rattle.unit.proofs.ExactlyOne.{one-not}
 use Rattle.composite.proofs.Units.{split-unread}
 use borrow.Author.Needs.{needs}
 use Rattle.composite.proofs.split.split.Statement.{statement}

@@ -4,7 +4,7 @@ use native.Mathlib.Omega.{arith}
 use borrow.Author.Tests.{not-true, not-false, eqb-true}
 use Rattle.iscc.proofs.Digits.{below-all}
 use Rattle.iscc.proofs.Lent.{refused, answers-same}
-use Rattle.unit.proofs.Sole.{one-is}
+use Rattle.unit.proofs.ExactlyOne.{one-is}
 use Rattle.composite.proofs.Units.{split-other, code-room, split-sound, split-whole}
 use borrow.Author.Needs.{needs}
 use Rattle.composite.proofs.split.split_item.Statement.{statement}

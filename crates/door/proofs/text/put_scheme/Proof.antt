@@ -4,8 +4,7 @@ use native.Mathlib.Omega.{arith}
 use borrow.Author.Needs.{needs}
 use lib.ListN.{length, take}
 use Rattle.iscc.specs.Doors.{scheme}
-use Rattle.iscc.proofs.Area.{Written, nothing-written, length-written}
-use Rattle.door.proofs.Copied.{copied-next, copied-all}
+use Rattle.iscc.proofs.Area.{Written, nothing-written, length-written, copied-next, copied-all}
 use Rattle.door.proofs.text.put_scheme.Statement.{statement}
 use Rattle.door.proofs.text.put_scheme.Tie as tie
 

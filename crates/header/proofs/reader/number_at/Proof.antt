@@ -6,7 +6,7 @@ use Rattle.header.proofs.Read.{number-none, number-ones, number-cut, nu
 use Rattle.header.proofs.reader.number_at.Statement.{statement}
 use Rattle.header.proofs.reader.number_at.Tie as tie
 
-sum-fits : tie.Need-add-t12
+sum-fits : tie.Need-add-t13
 sum-fits c =
     let a = c .before .before in
     omega (arith, mod-lt (a .value-at .result) (a .before .before .before .row-by .ensures .1 .numbers))
@@ -17,12 +17,13 @@ number-at-spec =
     (tie.spec
     (λ c. (search number-none, omega arith))
     (λ c κs. search needs)
+    (λ c κs. search needs)
     (λ c. (search number-ones, omega arith))
     (λ c κs. search needs)
     (λ c. search needs)
     (λ c. search needs)
-    (λ c. (search number-cut, omega arith))
     (λ c κs. search needs)
     (λ c. search needs)
     sum-fits
-    (λ c. (search number-here, omega arith)))
+    (λ c. (search number-here, omega arith))
+    (λ c. (search number-cut, omega arith)))

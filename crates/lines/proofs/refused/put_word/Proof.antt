@@ -3,9 +3,8 @@ use Prim.Native.Nat.{_≤_, _-_}
 use native.Mathlib.Omega.{arith}
 use borrow.Author.Needs.{needs}
 use lib.ListN.{length, take}
-use Rattle.iscc.proofs.Area.{Written, nothing-written, length-written}
-use Rattle.door.proofs.Copied.{copied-next, copied-all}
-use Rattle.lines.specs.Feeding.{refusedWord}
+use Rattle.iscc.specs.Lines.{refusedWord}
+use Rattle.iscc.proofs.Area.{Written, nothing-written, length-written, copied-next, copied-all}
 use Rattle.lines.proofs.refused.put_word.Statement.{statement}
 use Rattle.lines.proofs.refused.put_word.Tie as tie
 

@@ -1,6 +1,6 @@
 -- `read` meets its contract: the reader's answer, and whether a byte is left over. Assumes nothing.
 use borrow.Author.Needs.{needs}
-use Rattle.unit.proofs.Sole.{one-refused, one-left-over, one-unit}
+use Rattle.unit.proofs.ExactlyOne.{one-refused, one-left-over, one-unit}
 use Rattle.unit.proofs.one.read.Statement.{statement}
 use Rattle.unit.proofs.one.read.Tie as tie
 
@@ -11,6 +11,6 @@ read-spec =
     (λ c κs. search needs)
     (λ c. search needs)
     (λ c. search needs)
-    (λ c. search one-left-over)
+    (λ c. search one-unit)
     (λ c. search one-refused)
-    (λ c. search one-unit))
+    (λ c. search one-left-over))

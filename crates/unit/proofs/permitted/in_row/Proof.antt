@@ -1,25 +1,34 @@
--- `in_row` meets its contract: a law of the table for each return. Assumes nothing.
+-- `in_row` meets its contract: a law of the table for each return.
 use borrow.Author.Needs.{needs}
-use Rattle.unit.proofs.Table.{row-semantic, row-content, row-long, row-composite, row-id, row-other}
+use Rattle.iscc.specs.Permitted.{META, SEMANTIC, CONTENT, DATA, INSTANCE, ISCC, ID, row}
+use Rattle.unit.proofs.Table.{row-at, row-at-0, row-none}
 use Rattle.unit.proofs.permitted.in_row.Statement.{statement}
 use Rattle.unit.proofs.permitted.in_row.Tie as tie
 
 pub in-row-spec : {M : Type 1} → statement M
+unfolding row
 in-row-spec =
     tie.close
     (tie.spec
     (λ c κs. search needs)
     (λ c κs. search needs)
-    (λ c. search row-semantic)
+    (λ c. search (row-at-0 META))
     (λ c κs. search needs)
     (λ c κs. search needs)
-    (λ c. search row-content)
-    (λ c κs. search needs)
-    (λ c. search row-long)
-    (λ c κs. search needs)
-    (λ c. search row-composite)
+    (λ c. search (row-at SEMANTIC))
     (λ c κs. search needs)
     (λ c κs. search needs)
-    (λ c. search row-id)
+    (λ c. search (row-at CONTENT))
     (λ c κs. search needs)
-    (λ c. search row-other))
+    (λ c κs. search needs)
+    (λ c. search (row-at-0 DATA))
+    (λ c κs. search needs)
+    (λ c κs. search needs)
+    (λ c. search (row-at-0 INSTANCE))
+    (λ c κs. search needs)
+    (λ c κs. search needs)
+    (λ c. search (row-at ISCC))
+    (λ c κs. search needs)
+    (λ c κs. search needs)
+    (λ c. search (row-at ID))
+    (λ c. search row-none))

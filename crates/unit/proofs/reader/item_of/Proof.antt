@@ -22,6 +22,6 @@ item-of-spec =
     (λ c. search item-bad)
     (λ c κs. (search known-below, search item-length))
     sum-fits
-    (λ c. search item-short)
+    (λ c. search item-good)
     (λ c. search item-type)
-    (λ c. search item-good))
+    (λ c. search item-short))

@@ -6,8 +6,7 @@ use native.Mathlib.Omega.{arith}
 use borrow.Author.Needs.{needs}
 use lib.ListN.{take}
 use Rattle.iscc.specs.Answer.{accept, areaAfter}
-use Rattle.iscc.proofs.Area.{Written, nothing-written, length-written, all-written}
-use Rattle.unit.proofs.Parts.{copy-more}
+use Rattle.iscc.proofs.Area.{Written, nothing-written, length-written, all-written, copied-next}
 use Rattle.unit.proofs.writer.copy.Statement.{statement}
 use Rattle.unit.proofs.writer.copy.Tie as tie
 
@@ -21,7 +20,7 @@ loop-holds : tie.Need-loop-holds Inv-loop μ-loop
 loop-holds c = (omega arith, nothing-written _)
 
 loop-again : tie.Need-loop-again Inv-loop μ-loop
-loop-again c = (omega arith, copy-more _ _ (omega arith) (omega arith) (c .before .before .loop .inv .1))
+loop-again c = (omega arith, copied-next _ _ _ _ (omega arith) (omega arith) (c .before .before .loop .inv .1))
 
 returns : tie.Need-returns Inv-loop μ-loop
 returns c =

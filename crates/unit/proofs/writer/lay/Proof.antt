@@ -5,7 +5,7 @@ use borrow.Author.Needs.{needs}
 use Rattle.iscc.specs.Header.{headerBytes}
 use Rattle.iscc.proofs.Header.{length-short}
 use Rattle.header.specs.Forms.{headerFrom}
-use Rattle.unit.proofs.Parts.{over-twice}
+use Rattle.iscc.proofs.Parts.{over-twice}
 use Rattle.unit.proofs.Write.{header-written}
 use Rattle.unit.proofs.writer.lay.Statement.{statement}
 use Rattle.unit.proofs.writer.lay.Tie as tie

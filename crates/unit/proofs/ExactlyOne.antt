@@ -45,23 +45,23 @@ module _ (bs : List ℕ) (r : UnitRead) (er : r ≡ unitReadAs (readItem bs)) wh
       go (refuse q) f = let z : _≡_ {A = ℕ} 0 1 = cc (ap unitReadAs f) in absurd (omega arith)
 
 -- the one item: a header of two bytes, then its body
-pub record SoleBounds (bs : List ℕ) (i : Item) : Type 0 where
+pub record OneBounds (bs : List ℕ) (i : Item) : Type 0 where
   pub permitted : permits (i .mainType) (i .subtype) (i .version) (i .lengthNo) ≡ true
   pub size : length (i .body) ≡ bodyBytes (i .mainType) (i .subtype) (i .lengthNo)
   pub whole : length bs ≡ 2 + length (i .body)
   pub most : length bs ≤ 42
   pub body : i .body ≡ drop 2 bs
 
-pub sole-bounds : (bs : List ℕ) (i : Item) → readOne bs ≡ accept i → SoleBounds bs i
+pub one-bounds : (bs : List ℕ) (i : Item) → readOne bs ≡ accept i → OneBounds bs i
 unfolding readOne
-sole-bounds bs i f =
+one-bounds bs i f =
     let a = answered (readItem bs) _ f in
     let p = passed (leb (length bs) (a .0 .used)) _ (accept (a .0 .result)) (a .2) in
     let b : ItemBounds bs (a .0) = item-bounds bs (a .0) (a .1) in
     let l : length bs ≤ a .0 .used = leb-true (length bs) (a .0 .used) (p .0) in
     let n : length bs ≡ 2 + length (a .0 .result .body) = omega (arith, b .within, b .front) in
     let k : length (drop 2 bs) ≤ length (a .0 .result .body) = simp length-drop (omega arith) in
-    subst (SoleBounds bs) (accept-inj (p .1))
+    subst (OneBounds bs) (accept-inj (p .1))
     (record {
       permitted = b .permitted;
       size = b .size;
@@ -90,7 +90,7 @@ one-is bs u e = go (readOne bs) refl
   where
     of : (i : Item) → readOne bs ≡ accept i → OneIs bs (unitAs (record { result = i; used = length bs }))
     of i f =
-        let b : SoleBounds bs i = sole-bounds bs i f in
+        let b : OneBounds bs i = one-bounds bs i f in
         let s : length bs - length (i .body) ≡ 2 = omega (arith, b .whole) in
         record {
           item = i;
