@@ -9,7 +9,7 @@ use lib.Dec.{leb}
 use borrow.Author.Tests.{le-leb, lt-leb}
 use Rattle.iscc.specs.Refusals.{areaTooShort}
 use Rattle.iscc.specs.Answer.{accept, into, areaAfter}
-use Rattle.iscc.specs.Header.{Header, headerBytes, writeHeader}
+use Rattle.iscc.specs.Header.{headerBytes}
 use Rattle.iscc.specs.Permitted.{Set, setOf, unitCount}
 use Rattle.iscc.specs.Meaning.{composite, Sized, Permitted}
 use Rattle.iscc.specs.Item.{itemBytes, itemOf}
@@ -20,11 +20,10 @@ use Rattle.iscc.proofs.Lists.{all-at}
 use Rattle.iscc.proofs.Header.{length-short}
 use Rattle.iscc.proofs.Permitted.{set-small, subtype-small, count-most, set-back}
 use Rattle.iscc.proofs.Parts.{over-twice}
-use Rattle.unit.proofs.Write.{header-written}
 use Rattle.composite.specs.declared.bodies.Composite.{Composite}
-use Rattle.composite.specs.Bodies.{rows, laid, compositeAs}
-use Rattle.composite.specs.Code.{Sound, codeHeader, codeBytes}
-use Rattle.composite.proofs.Parts.{rows-eight, row-at, laid-length, laid-flat}
+use Rattle.composite.specs.Bodies.{filledBodies, laid, compositeAs}
+use Rattle.composite.specs.Code.{Sound, compositeHeader, compositeBytes}
+use Rattle.composite.proofs.Parts.{filled-eight, filled-at, laid-length, laid-flat}
 
 -- ---- the last test of a writer
 
@@ -41,42 +40,37 @@ module _ (out d : List ℕ) (n : ℕ) (l : length out ≡ n) where
 -- ---- a sound composite's own bytes
 
 module _ (c : Composite) (ok : Sound c) where
-  abbrev count : ℕ
-  count = unitCount (setOf (c .length))
+  abbrev pub count : ℕ
+  count = unitCount (setOf (c .«length_number»))
 
   bodies-length : length (laid (λ i. getD (c .bodies) i []) count) ≡ count * 8
-  bodies-length = let m : count ≤ 5 = count-most (setOf (c .length)) in laid-length (λ i. getD (c .bodies) i []) 8 count (λ i h. ok .bodies i (omega arith))
+  bodies-length = let m : count ≤ 5 = count-most (setOf (c .«length_number»)) in laid-length (λ i. getD (c .bodies) i []) 8 count (λ i h. ok .bodies i (omega arith))
 
-  subtype-fits : c .subtype < 8
-  subtype-fits = let s : c .subtype ≤ 6 = subtype-small (c .length) (c .subtype) (ok .subtype) in omega arith
+  pub subtype-fits : c .subtype < 8
+  subtype-fits = let s : c .subtype ≤ 6 = subtype-small (c .«length_number») (c .subtype) (ok .subtype) in omega arith
 
-  number-fits : c .length < 8
-  number-fits = let s : c .length ≤ 7 = ok .number in omega arith
+  pub number-fits : c .«length_number» < 8
+  number-fits = let s : c .«length_number» ≤ 7 = ok .number in omega arith
 
-  header-length : length (headerBytes (codeHeader c)) ≡ 2
-  header-length = length-short (codeHeader c) (omega arith) subtype-fits (omega arith) number-fits
+  header-length : length (headerBytes (compositeHeader c)) ≡ 2
+  header-length = length-short (compositeHeader c) (omega arith) subtype-fits (omega arith) number-fits
 
-  pub code-length : length (codeBytes c) ≡ 2 + count * 8
-  unfolding codeBytes
-  code-length = length-append (headerBytes (codeHeader c)) (laid (λ i. getD (c .bodies) i []) count) ∙ omega (arith, header-length, bodies-length)
+  pub code-length : length (compositeBytes c) ≡ 2 + count * 8
+  unfolding compositeBytes
+  code-length = length-append (headerBytes (compositeHeader c)) (laid (λ i. getD (c .bodies) i []) count) ∙ omega (arith, header-length, bodies-length)
 
-  -- the header was written to the front, and the bodies to the part behind it
-  pub code-laid : (n k : ℕ) (rs : List (List ℕ)) (d a e : List ℕ) → n ≡ 5 → k ≡ count → rs ≡ c .bodies → 2 ≤ length d
-      → a ≡ areaAfter (writeHeader (record { mainType = n; subtype = c .subtype; version = 0; lengthNo = c .length }) (length d)) d
+  -- the header stands in front, and the bodies were written to the part behind it
+  pub code-over : (k : ℕ) (rs : List (List ℕ)) (d a e : List ℕ) → k ≡ count → rs ≡ c .bodies → a ≡ areaAfter (accept (headerBytes (compositeHeader c))) d
       → e ≡ laid (λ i. getD rs i []) k ++ drop (k * 8) (take (length a - 2) (drop 2 a))
-      → take 2 a ++ (e ++ drop (length a - 2) (drop 2 a)) ≡ areaAfter (accept (codeBytes c)) d
-  unfolding codeBytes
-  code-laid n k rs d a e en ek er l ea ee =
-      let h : Header = codeHeader c in
+      → take 2 a ++ (e ++ drop (length a - 2) (drop 2 a)) ≡ areaAfter (accept (compositeBytes c)) d
+  unfolding compositeBytes
+  code-over k rs d a e ek er ea ee =
       let bs : List ℕ = laid (λ i. getD (c .bodies) i []) count in
-      let a′ : a ≡ areaAfter (accept (headerBytes h)) d =
-      ea ∙ ap (λ (x : ℕ). areaAfter (writeHeader (record { mainType = x; subtype = c .subtype; version = 0; lengthNo = c .length }) (length d)) d) en
-      ∙ header-written h d (omega arith) subtype-fits (omega arith) number-fits l in
       let e′ : e ≡ bs ++ drop (length bs) (take (length a - 2) (drop 2 a)) =
       ee ∙ ap (λ (x : ℕ). laid (λ i. getD rs i []) x ++ drop (x * 8) (take (length a - 2) (drop 2 a))) ek
       ∙ ap (λ (x : List (List ℕ)). laid (λ i. getD x i []) count ++ drop (count * 8) (take (length a - 2) (drop 2 a))) er
       ∙ ap (λ (x : ℕ). bs ++ drop x (take (length a - 2) (drop 2 a))) (sym bodies-length) in
-      over-twice (headerBytes h) bs d a e 2 (sym header-length) a′ e′
+      over-twice (headerBytes (compositeHeader c)) bs d a e 2 (sym header-length) ea e′
 
 -- ---- from a meaning
 
@@ -87,14 +81,14 @@ module _ (s v : ℕ) (u : Set) (bodies : List (List ℕ)) (p : Permitted (compos
       record {
         number = set-small u;
         subtype = p .subtype;
-        bodies = rows-eight (λ i. getD bodies i []) (unitCount u) 5 (λ i h. all-at (Sized 8) bodies i [] (p .sized) (omega (arith, p .count)) .0);
+        bodies = filled-eight (λ i. getD bodies i []) (unitCount u) 5 (λ i h. all-at (Sized 8) bodies i [] (p .sized) (omega (arith, p .count)) .0);
       }
 
-  bodies-laid : laid (λ i. getD (rows (λ i. getD bodies i []) (unitCount u) 5) i []) (unitCount u) ≡ flatten bodies
+  bodies-laid : laid (λ i. getD (filledBodies (λ i. getD bodies i []) (unitCount u) 5) i []) (unitCount u) ≡ flatten bodies
   bodies-laid =
-      ap (laid (λ i. getD (rows (λ i. getD bodies i []) (unitCount u) 5) i [])) (sym (p .count))
-      ∙ laid-flat _ bodies (λ i h. row-at (λ i. getD bodies i []) (unitCount u) 5 i (omega (arith, p .count)) (omega (arith, p .count, count-most u)))
+      ap (laid (λ i. getD (filledBodies (λ i. getD bodies i []) (unitCount u) 5) i [])) (sym (p .count))
+      ∙ laid-flat _ bodies (λ i h. filled-at (λ i. getD bodies i []) (unitCount u) 5 i (omega (arith, p .count)) (omega (arith, p .count, count-most u)))
 
-  pub code-of : codeBytes (compositeAs (composite s v u bodies)) ≡ itemBytes (itemOf (composite s v u bodies))
-  unfolding compositeAs codeBytes itemBytes itemOf
+  pub code-of : compositeBytes (compositeAs (composite s v u bodies)) ≡ itemBytes (itemOf (composite s v u bodies))
+  unfolding compositeAs compositeBytes itemBytes itemOf
   code-of = rw (set-back u, bodies-laid, p .version)

@@ -1,6 +1,6 @@
 -- What a list's verdict says of the bytes that are written. Assumes nothing.
 use Prim.Native.Nat.{ℕ, _≤_, _<_}
-use mathlib.Core.Path.{_≡_, refl, sym, _∙_, ap, subst⁻¹}
+use mathlib.Core.Path.{_≡_, refl, sym, _∙_, ap, subst, subst⁻¹}
 use mathlib.Core.Bool.{Bool, true, false, cond}
 use mathlib.Core.List.{List, [], _∷_}
 use native.Mathlib.Nat.{not-suc-le-zero}
@@ -25,11 +25,13 @@ use Rattle.units.specs.declared.reader.Reading.the-variants as reading
 use Rattle.units.specs.declared.verdict.Verdict.{Verdict}
 use Rattle.units.specs.declared.verdict.Verdict.the-variants as verdict
 use Rattle.units.specs.Summary.{Summarizes}
-use Rattle.units.specs.Reading.{refusedIndex, readingAs}
-use Rattle.units.specs.Verdict.{brokenAt, verdictAs, verdictOf}
+use Rattle.units.specs.Reading.{leadingItems, refusedIndex, readingAs}
+use Rattle.units.specs.Verdict.{verdictDetail, verdictAs, verdictOf, decided}
+use Rattle.units.proofs.Decided.{decided-is}
+use Rattle.units.proofs.Leading.{leading-all}
 use Rattle.composite.specs.declared.bodies.Composite.{Composite}
 use Rattle.composite.specs.Bodies.{Makes, compositeAs}
-use Rattle.composite.specs.Code.{Sound, codeBytes}
+use Rattle.composite.specs.Code.{Sound, compositeBytes}
 use Rattle.composite.specs.Joined.{Listed, composedBytes, singleRefusal}
 use Rattle.composite.proofs.Made.{permitted-parts}
 use Rattle.composite.proofs.Bytes.{sound-of, code-of}
@@ -48,9 +50,9 @@ module _ (bs : List ℕ) (l : Summary) (m : Meaning) (k : Makes bs l m) (c : Com
       subst⁻¹ Sound (e ∙ ap compositeAs (sym (of .meaning)))
       (sound-of (subtypeOf is) 0 (setIn is) (bodiesIn (unitTypes (setIn is)) is) (permitted-parts bs l m k))
 
-  pub makes-bytes : codeBytes c ≡ itemBytes (itemOf m)
+  pub makes-bytes : compositeBytes c ≡ itemBytes (itemOf m)
   makes-bytes =
-      ap codeBytes (e ∙ ap compositeAs (sym (of .meaning)))
+      ap compositeBytes (e ∙ ap compositeAs (sym (of .meaning)))
       ∙ code-of (subtypeOf is) 0 (setIn is) (bodiesIn (unitTypes (setIn is)) is) (permitted-parts bs l m k)
       ∙ ap (λ (x : Meaning). itemBytes (itemOf x)) (of .meaning)
 
@@ -68,20 +70,20 @@ composedBytes-is : (bs : List ℕ) (is : List Item) (m : Meaning) → readItems 
 unfolding composedBytes
 composedBytes-is bs is m e f = rw (e, f)
 
-module _ (bs : List ℕ) (l : Summary) (i : Listed bs l) {v : Verdict} (ev : (cs : List ℕ) (is : List Item) → Summarizes cs is l → v ≡ verdictOf is) where
+module _ (bs : List ℕ) (l : Summary) (i : Listed bs l) {v : Verdict} (ev : v ≡ decided l) where
   verdict-is : v ≡ verdictOf (i .items)
-  verdict-is = ev bs (i .items) (i .summary)
+  verdict-is = ev ∙ decided-is bs (i .items) l (i .summary)
 
-  pub verdict-refuses : (q : Refusal) (j : ℕ) → v ≡ verdict.Refused q j → (composedBytes bs ≡ refuse q) × (brokenAt (i .items) ≡ j)
+  pub verdict-refuses : (q : Refusal) (j : ℕ) → v ≡ verdict.Refused q j → (composedBytes bs ≡ refuse q) × (verdictDetail (i .items) ≡ j)
   unfolding composedBytes verdictOf
   verdict-refuses q j e =
-      let r = by-refused (brokenAt (i .items)) (compositeFrom (i .items)) q j (sym e ∙ verdict-is) in
+      let r = by-refused (verdictDetail (i .items)) (compositeFrom (i .items)) q j (sym e ∙ verdict-is) in
       (rw (i .read, r .0), r .1)
 
   pub verdict-makes : Below 256 bs → v ≡ verdict.Composite → (m : Meaning) × Makes bs l m × (composedBytes bs ≡ accept (itemBytes (itemOf m)))
   unfolding composedBytes verdictOf
   verdict-makes b e =
-      let r = by-composite (brokenAt (i .items)) (compositeFrom (i .items)) (sym e ∙ verdict-is) in (
+      let r = by-composite (verdictDetail (i .items)) (compositeFrom (i .items)) (sym e ∙ verdict-is) in (
         r .0,
         record { items = i .items; summary = i .summary; made = r .1; permitted = compositeFrom-permitted (i .items) (r .0) (items-read bs (i .items) b (i .read) .permitted) (r .1) },
         composedBytes-is bs (i .items) (r .0) (i .read) (r .1),
@@ -98,8 +100,10 @@ refusal-told k (accept is) q j e f = let z : _≡_ {A = ℕ} 0 1 = cc in absurd 
 refusal-told k (refuse p) q j e f = let s : p ≡ q = cc in let t : k ≡ j = cc in (ap refuse s, t)
 
 module _ (bs : List ℕ) {a : Reading} (ea : a ≡ readingAs (refusedIndex bs) (readItems bs)) where
-  pub listed-of : (l : Summary) → ((is : List Item) → readItems bs ≡ accept is → Summarizes bs is l) → a ≡ reading.Items → Listed bs l
-  listed-of l f e = let r = items-told (refusedIndex bs) (readItems bs) ea e in record { items = r .0; read = r .1; summary = f (r .0) (r .1) }
+  pub listed-of : (l : Summary) → Summarizes bs (leadingItems bs) l → a ≡ reading.Items → Listed bs l
+  listed-of l f e =
+      let r = items-told (refusedIndex bs) (readItems bs) ea e in
+      record { items = r .0; read = r .1; summary = subst (λ (is : List Item). Summarizes bs is l) (leading-all bs (r .0) (r .1)) f }
 
   pub read-refused : (q : Refusal) (j : ℕ) → a ≡ reading.Refused q j → (readItems bs ≡ refuse q) × (refusedIndex bs ≡ j)
   read-refused q j e = refusal-told (refusedIndex bs) (readItems bs) q j ea e

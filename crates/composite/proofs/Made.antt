@@ -10,7 +10,7 @@ use lib.Seq.{getD-take}
 use lib.Dec.{eqb, lit<}
 use borrow.Author.Tests.{eqb-true, eq-eqb, ne-eqb}
 use Rattle.iscc.specs.Lists.{All, every, pairwise}
-use Rattle.iscc.specs.Permitted.{META, SEMANTIC, CONTENT, ID, number, Set, setOf, setNumber, unitTypes, unitCount}
+use Rattle.iscc.specs.Permitted.{META, SEMANTIC, CONTENT, ID, number, Set, weight, setOf, setNumber, unitTypes, unitCount}
 use Rattle.iscc.specs.Permitted as permitted
 use Rattle.iscc.specs.Meaning.{Meaning, Sized, Permitted, PermittedComposite}
 use Rattle.iscc.specs.Item.{Item}
@@ -24,11 +24,11 @@ use Rattle.iscc.proofs.Permitted.{set-back, count-most, types-count, types-all}
 use Rattle.iscc.proofs.Items.{CompositeParts, compositeFrom-parts}
 use Rattle.iscc.proofs.Split.{Bears, subtype-there}
 use Rattle.units.specs.declared.summary.Summary.{Summary}
-use Rattle.units.specs.Summary.{Placed, firstSubtype, anySubtyped}
+use Rattle.units.specs.Summary.{BodyAt, firstSubtype, anySubtyped}
 use Rattle.units.proofs.Snoc.{subtyped}
-use Rattle.units.proofs.Added.{place-tells, any-is}
-use Rattle.composite.specs.Bodies.{parts, rows, compositeAs, Makes, placeIn, setAt, subtypeAt}
-use Rattle.composite.proofs.Parts.{rows-same}
+use Rattle.units.proofs.Added.{offset-tells, any-is}
+use Rattle.composite.specs.Bodies.{parts, filledBodies, compositeAs, Makes, offsetIn, setOfOffsets, summarySubtype}
+use Rattle.composite.proofs.Parts.{filled-same}
 
 pub count-is : (u : UnitSet) (n : ℕ) → u ≡ unitSetAs (setOf n) → u .count ≡ unitCount (setOf n)
 unfolding unitSetAs
@@ -67,7 +67,7 @@ subtype-of is e =
 -- ---- the bodies
 
 -- a body of eight bytes that is there stands at its place
-placed-at : (bs : List ℕ) (o : Option (List ℕ)) (at : ℕ) → isIn o ≡ true → length (bytesIn o) ≡ 8 → Placed bs o at → (at + 8 ≤ length bs) × (take 8 (drop at bs) ≡ bytesIn o)
+placed-at : (bs : List ℕ) (o : Option (List ℕ)) (at : ℕ) → isIn o ≡ true → length (bytesIn o) ≡ 8 → BodyAt bs o at → (at + 8 ≤ length bs) × (take 8 (drop at bs) ≡ bytesIn o)
 placed-at bs none at h e p = absurd (false≢true h)
 placed-at bs (some body) at h e p = (omega (arith, p .1), ap (λ (k : ℕ). take k (drop at bs)) (sym e) ∙ p .2)
 
@@ -90,26 +90,29 @@ not-not : (b : Bool) → not (not b) ≡ b
 not-not true = refl
 not-not false = refl
 
-subtype-by : (a b c d : Bool) (x y : ℕ) → a ≡ b → x ≡ y → c ≡ not d → cond a x (cond c 5 6) ≡ cond b y (cond d 6 5)
-subtype-by a b c d x y p q r = rw (p, q, r) (go d)
-  where
-    go : (e : Bool) → cond b y (cond (not e) 5 6) ≡ cond b y (cond e 6 5)
-    go true = refl
-    go false = refl
+subtype-by : (a b c d : Bool) (x y : ℕ) → a ≡ b → x ≡ y → c ≡ d → cond a x (cond c 6 5) ≡ cond b y (cond d 6 5)
+subtype-by a b c d x y p q r = rw (p, q, r)
+
+-- what `set_number` returns: by the offsets of the bodies, and by what each adds
+pub set-number-is : (offsets : List ℕ) (a b c x y z : ℕ) → a ≡ getD offsets (permitted.number META) 0 → (x ≡ weight 4 (not (eqb a 0))) × (x ≤ 4)
+    → b ≡ getD offsets (permitted.number SEMANTIC) 0 → (y ≡ weight 2 (not (eqb b 0))) × (y ≤ 2) → c ≡ getD offsets (permitted.number CONTENT) 0
+    → (z ≡ weight 1 (not (eqb c 0))) × (z ≤ 1) → (x + y + z ≡ setNumber (setOfOffsets offsets)) × (x + y + z ≤ 7)
+set-number-is offsets a b c x y z ea ex eb ey ec ez = (rw (← ea, ← eb, ← ec, ex .0, ey .0, ez .0), omega (arith, ex .1, ey .1, ez .1))
 
 -- what `subtype_of` returns
-module _ (l : Summary) (r : Bool) (e : r ≡ anySubtyped (l .places)) where
-  pub subtype-shared : r ≡ true → l .subtype ≡ subtypeAt l
-  unfolding subtypeAt
+module _ (l : Summary) (r : Bool) (e : r ≡ anySubtyped (l .offsets)) where
+  pub subtype-shared : r ≡ true → l .subtype ≡ summarySubtype l
+  unfolding summarySubtype
   subtype-shared t = rw (← e, t)
 
-  pub subtype-5 : r ≡ false → getD (l .places) 0 0 ≡ 0 → 5 ≡ subtypeAt l
-  unfolding subtypeAt
-  subtype-5 t z = rw (← e, t, eq-eqb (getD (l .places) 0 0) 0 z)
+  module _ (t : r ≡ false) (o : ℕ) (f : o ≡ getD (l .offsets) (permitted.number META) 0) where
+    pub subtype-5 : o ≡ 0 → 5 ≡ summarySubtype l
+    unfolding summarySubtype
+    subtype-5 z = rw (← e, t, ← f, eq-eqb o 0 z)
 
-  pub subtype-6 : r ≡ false → (getD (l .places) 0 0 ≡ 0 → ⊥) → 6 ≡ subtypeAt l
-  unfolding subtypeAt
-  subtype-6 t z = rw (← e, t, ne-eqb (getD (l .places) 0 0) 0 z)
+    pub subtype-6 : (o ≡ 0 → ⊥) → 6 ≡ summarySubtype l
+    unfolding summarySubtype
+    subtype-6 z = rw (← e, t, ← f, ne-eqb o 0 z)
 
 module _ (bs : List ℕ) (l : Summary) (m : Meaning) (k : Makes bs l m) where
   abbrev is : List Item
@@ -127,13 +130,13 @@ module _ (bs : List ℕ) (l : Summary) (m : Meaning) (k : Makes bs l m) where
   pub permitted-parts : PermittedComposite (subtypeOf is) 0 set bodies
   permitted-parts = subst Permitted (sym (of .meaning)) (k .permitted)
 
-  seen : (t : permitted.MainType) → not (eqb (getD (l .places) (number t) 0) 0) ≡ has t is
-  seen t = ap not (place-tells bs (bodyIn t is) (getD (l .places) (number t) 0) (k .summary .places t)) ∙ not-not (has t is)
+  seen : (t : permitted.MainType) → not (eqb (getD (l .offsets) (number t) 0) 0) ≡ has t is
+  seen t = ap not (offset-tells bs (bodyIn t is) (getD (l .offsets) (number t) 0) (k .summary .offsets t)) ∙ not-not (has t is)
 
-  set-at : setAt (l .places) ≡ set
+  set-at : setOfOffsets (l .offsets) ≡ set
   set-at = rw (seen META, seen SEMANTIC, seen CONTENT)
 
-  units-are : unitSetAs (setOf (setNumber (setAt (l .places)))) ≡ unitSetAs set
+  units-are : unitSetAs (setOf (setNumber (setOfOffsets (l .offsets)))) ≡ unitSetAs set
   units-are = ap (λ (s : Set). unitSetAs (setOf (setNumber s))) set-at ∙ ap unitSetAs (set-back set)
 
   in-list : All (λ t. (number t < 5) × (has t is ≡ true)) (unitTypes set)
@@ -148,21 +151,20 @@ module _ (bs : List ℕ) (l : Summary) (m : Meaning) (k : Makes bs l m) where
     pub type-in : (number type < 5) × (has type is ≡ true)
     type-in = all-at (λ t. (number t < 5) × (has t is ≡ true)) (unitTypes set) i ID in-list (omega (arith, types-count set))
 
-    pub body-at : (getD (l .places) (number type) 0 + 8 ≤ length bs) × (take 8 (drop (getD (l .places) (number type) 0) bs) ≡ getD bodies i [])
+    pub body-at : (getD (l .offsets) (number type) 0 + 8 ≤ length bs) × (take 8 (drop (getD (l .offsets) (number type) 0) bs) ≡ getD bodies i [])
     body-at =
         let b : getD bodies i [] ≡ bytesIn (bodyIn type is) = map-at (λ t. bytesIn (bodyIn t is)) (unitTypes set) i ID [] (omega (arith, types-count set)) in
         let z : length (getD bodies i []) ≡ 8 = all-at (Sized 8) bodies i [] (permitted-parts .sized) (omega (arith, permitted-parts .count)) .0 in
-        let w = placed-at bs (bodyIn type is) (getD (l .places) (number type) 0) (type-in .1) (ap length (sym b) ∙ z) (k .summary .places type) in
+        let w = placed-at bs (bodyIn type is) (getD (l .offsets) (number type) 0) (type-in .1) (ap length (sym b) ∙ z) (k .summary .offsets type) in
         (w .0, w .1 ∙ sym b)
 
-  pub subtype-made : subtypeAt l ≡ subtypeOf is
-  unfolding subtypeAt
+  pub subtype-made : summarySubtype l ≡ subtypeOf is
+  unfolding summarySubtype
   subtype-made =
-      subtype-by (anySubtyped (l .places)) (subtyped is) (eqb (getD (l .places) 0 0) 0) (has META is) (l .subtype) (firstSubtype is) (any-is bs is l (k .summary)) (k .summary .subtype) (place-tells bs (bodyIn META is) (getD (l .places) 0 0) (k .summary .places META))
-      ∙ sym (subtype-of is (of .shared))
+      subtype-by _ _ _ _ _ _ (any-is bs is l (k .summary)) (k .summary .subtype) (seen META) ∙ sym (subtype-of is (of .shared))
 
   -- what `rows_of` asks, and what it makes
-  module _ (u : UnitSet) (e : u ≡ unitSetAs (setOf (setNumber (setAt (l .places))))) where
+  module _ (u : UnitSet) (e : u ≡ unitSetAs (setOf (setNumber (setOfOffsets (l .offsets))))) where
     set-is : u ≡ unitSetAs set
     set-is = e ∙ units-are
 
@@ -173,16 +175,16 @@ module _ (bs : List ℕ) (l : Summary) (m : Meaning) (k : Makes bs l m) where
     unit-there : (i : ℕ) (h : i < unitCount set) → getD (u .units) i (record { number = 0 }) ≡ mainTypeAs (type i h)
     unit-there i h = ap (λ (x : UnitSet). getD (x .units) i (record { number = 0 })) set-is ∙ unit-at set i h
 
-    pub units-there : (i : ℕ) → i < u .count → There bs (l .places) (getD (u .units) i (record { number = 0 }))
+    pub units-there : (i : ℕ) → i < u .count → There bs (l .offsets) (getD (u .units) i (record { number = 0 }))
     units-there i h =
         let g : i < unitCount set = omega (arith, count-there) in
-        subst⁻¹ (There bs (l .places)) (unit-there i g) (omega (arith, type-in i g .0), body-at i g .0)
+        subst⁻¹ (There bs (l .offsets)) (unit-there i g) (omega (arith, type-in i g .0), body-at i g .0)
 
-    pub list-made : (r : List (List ℕ)) → r ≡ rows (λ i. take 8 (drop (placeIn (l .places) (u .units) i) bs)) (u .count) 5
-        → parts (setNumber (setAt (l .places))) (subtypeAt l) r ≡ compositeAs m
+    pub list-made : (r : List (List ℕ)) → r ≡ filledBodies (λ i. take 8 (drop (offsetIn (l .offsets) (u .units) i) bs)) (u .count) 5
+        → parts (setNumber (setOfOffsets (l .offsets))) (summarySubtype l) r ≡ compositeAs m
     unfolding compositeAs
     list-made r q =
-        let w : r ≡ rows (λ i. getD bodies i []) (unitCount set) 5 =
-        q ∙ ap (λ (n : ℕ). rows (λ i. take 8 (drop (placeIn (l .places) (u .units) i) bs)) n 5) count-there
-        ∙ rows-same _ _ (unitCount set) 5 (λ i h. ap (λ (x : MainType). take 8 (drop (getD (l .places) (x .number) 0) bs)) (unit-there i h) ∙ body-at i h .1) in
-        ap (λ (n : ℕ). parts n (subtypeAt l) r) (ap setNumber set-at) ∙ rw (subtype-made, w) (ap compositeAs (of .meaning))
+        let w : r ≡ filledBodies (λ i. getD bodies i []) (unitCount set) 5 =
+        q ∙ ap (λ (n : ℕ). filledBodies (λ i. take 8 (drop (offsetIn (l .offsets) (u .units) i) bs)) n 5) count-there
+        ∙ filled-same _ _ (unitCount set) 5 (λ i h. ap (λ (x : MainType). take 8 (drop (getD (l .offsets) (x .number) 0) bs)) (unit-there i h) ∙ body-at i h .1) in
+        ap (λ (n : ℕ). parts n (summarySubtype l) r) (ap setNumber set-at) ∙ rw (subtype-made, w) (ap compositeAs (of .meaning))

@@ -7,7 +7,7 @@ use native.Mathlib.Numerals.{add-one}
 use native.Mathlib.Omega.{arith}
 use lib.ListN.{length, take, drop, getD, set, replicate, length-append, length-take, length-drop, drop-of-length-le}
 use lib.Seq.{drop-cons, take-all, drop-drop, take-at, drop-at}
-use Rattle.composite.specs.Bodies.{rows, laid}
+use Rattle.composite.specs.Bodies.{filledBodies, laid}
 
 -- ---- the elements of a part, written out
 
@@ -35,44 +35,44 @@ put-back o row ys at h l e =
     let y : ys ≡ row ++ [] = e ∙ ap₂ (λ (p q : List ℕ). p ++ q) (take-all (length row) row (omega arith)) (drop-of-length-le (take (at + 8 - at) (drop at o)) {i = length row} (simp (length-take, length-drop) (omega arith))) in
     ap₂ (λ (p q : List ℕ). take at o ++ (p ++ q)) (y ∙ append-nil row) (ap (λ (m : ℕ). drop m (drop at o)) k ∙ drop-drop 8 at o)
 
--- ---- rows
+-- ---- bodies, filled up with zeros
 
-rows-none : (f g : ℕ → List ℕ) (k : ℕ) → rows f 0 k ≡ rows g 0 k
-unfolding rows
-rows-none f g zero = refl
-rows-none f g (suc k) = ap (λ (r : List (List ℕ)). replicate 8 0 ∷ r) (rows-none f g k)
+filled-none : (f g : ℕ → List ℕ) (k : ℕ) → filledBodies f 0 k ≡ filledBodies g 0 k
+unfolding filledBodies
+filled-none f g zero = refl
+filled-none f g (suc k) = ap (λ (r : List (List ℕ)). replicate 8 0 ∷ r) (filled-none f g k)
 
-set-row : (f : ℕ → List ℕ) (i k : ℕ) → i < k → set (rows f i k) i (f i) ≡ rows f (suc i) k
-unfolding rows
-set-row f i zero h = absurd (not-suc-le-zero h)
-set-row f zero (suc k) h = ap (λ (r : List (List ℕ)). f 0 ∷ r) (rows-none f (λ i. f (suc i)) k)
-set-row f (suc i) (suc k) h = ap (λ (r : List (List ℕ)). f 0 ∷ r) (set-row (λ i. f (suc i)) i k (le-of-suc-le-suc h))
+set-filled : (f : ℕ → List ℕ) (i k : ℕ) → i < k → set (filledBodies f i k) i (f i) ≡ filledBodies f (suc i) k
+unfolding filledBodies
+set-filled f i zero h = absurd (not-suc-le-zero h)
+set-filled f zero (suc k) h = ap (λ (r : List (List ℕ)). f 0 ∷ r) (filled-none f (λ i. f (suc i)) k)
+set-filled f (suc i) (suc k) h = ap (λ (r : List (List ℕ)). f 0 ∷ r) (set-filled (λ i. f (suc i)) i k (le-of-suc-le-suc h))
 
--- one more row is filled
-pub row-filled : (f : ℕ → List ℕ) (i k : ℕ) (out : List (List ℕ)) (row : List ℕ) → i < k → out ≡ rows f i k → row ≡ f i → set out i row ≡ rows f (i + 1) k
-row-filled f i k out row h eo er = rw (eo, er, add-one) (set-row f i k h)
+-- one more is filled
+pub one-filled : (f : ℕ → List ℕ) (i k : ℕ) (out : List (List ℕ)) (row : List ℕ) → i < k → out ≡ filledBodies f i k → row ≡ f i → set out i row ≡ filledBodies f (i + 1) k
+one-filled f i k out row h eo er = rw (eo, er, add-one) (set-filled f i k h)
 
-pub row-at : (f : ℕ → List ℕ) (n k i : ℕ) → i < n → i < k → getD (rows f n k) i [] ≡ f i
-unfolding rows
-row-at f n zero i h l = absurd (not-suc-le-zero l)
-row-at f zero (suc k) i h l = absurd (not-suc-le-zero h)
-row-at f (suc n) (suc k) zero h l = refl
-row-at f (suc n) (suc k) (suc i) h l = row-at (λ i. f (suc i)) n k i (le-of-suc-le-suc h) (le-of-suc-le-suc l)
+pub filled-at : (f : ℕ → List ℕ) (n k i : ℕ) → i < n → i < k → getD (filledBodies f n k) i [] ≡ f i
+unfolding filledBodies
+filled-at f n zero i h l = absurd (not-suc-le-zero l)
+filled-at f zero (suc k) i h l = absurd (not-suc-le-zero h)
+filled-at f (suc n) (suc k) zero h l = refl
+filled-at f (suc n) (suc k) (suc i) h l = filled-at (λ i. f (suc i)) n k i (le-of-suc-le-suc h) (le-of-suc-le-suc l)
 
-pub rows-same : (f g : ℕ → List ℕ) (n k : ℕ) → ((i : ℕ) → i < n → f i ≡ g i) → rows f n k ≡ rows g n k
-unfolding rows
-rows-same f g n zero e = refl
-rows-same f g zero (suc k) e = ap (λ (r : List (List ℕ)). replicate 8 0 ∷ r) (rows-none f g k)
-rows-same f g (suc n) (suc k) e =
-    ap₂ (λ (x : List ℕ) (r : List (List ℕ)). x ∷ r) (e 0 (omega arith)) (rows-same (λ i. f (suc i)) (λ i. g (suc i)) n k (λ i h. e (suc i) (omega arith)))
+pub filled-same : (f g : ℕ → List ℕ) (n k : ℕ) → ((i : ℕ) → i < n → f i ≡ g i) → filledBodies f n k ≡ filledBodies g n k
+unfolding filledBodies
+filled-same f g n zero e = refl
+filled-same f g zero (suc k) e = ap (λ (r : List (List ℕ)). replicate 8 0 ∷ r) (filled-none f g k)
+filled-same f g (suc n) (suc k) e =
+    ap₂ (λ (x : List ℕ) (r : List (List ℕ)). x ∷ r) (e 0 (omega arith)) (filled-same (λ i. f (suc i)) (λ i. g (suc i)) n k (λ i h. e (suc i) (omega arith)))
 
-pub rows-eight : (f : ℕ → List ℕ) (n k : ℕ) → ((i : ℕ) → i < n → length (f i) ≡ 8) → (i : ℕ) → i < k → length (getD (rows f n k) i []) ≡ 8
-unfolding rows
-rows-eight f n zero e i h = absurd (not-suc-le-zero h)
-rows-eight f zero (suc k) e zero h = refl
-rows-eight f zero (suc k) e (suc i) h = rows-eight f zero k e i (le-of-suc-le-suc h)
-rows-eight f (suc n) (suc k) e zero h = e 0 (omega arith)
-rows-eight f (suc n) (suc k) e (suc i) h = rows-eight (λ i. f (suc i)) n k (λ j l. e (suc j) (omega arith)) i (le-of-suc-le-suc h)
+pub filled-eight : (f : ℕ → List ℕ) (n k : ℕ) → ((i : ℕ) → i < n → length (f i) ≡ 8) → (i : ℕ) → i < k → length (getD (filledBodies f n k) i []) ≡ 8
+unfolding filledBodies
+filled-eight f n zero e i h = absurd (not-suc-le-zero h)
+filled-eight f zero (suc k) e zero h = refl
+filled-eight f zero (suc k) e (suc i) h = filled-eight f zero k e i (le-of-suc-le-suc h)
+filled-eight f (suc n) (suc k) e zero h = e 0 (omega arith)
+filled-eight f (suc n) (suc k) e (suc i) h = filled-eight (λ i. f (suc i)) n k (λ j l. e (suc j) (omega arith)) i (le-of-suc-le-suc h)
 
 -- ---- parts of one width, laid end to end
 

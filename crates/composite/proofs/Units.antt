@@ -34,10 +34,10 @@ use Rattle.unit.specs.declared.reader.Unit.{Unit}
 use Rattle.unit.proofs.ExactlyOne.{OneIs}
 use Rattle.unit.proofs.Table.{seven}
 use Rattle.composite.specs.declared.bodies.Composite.{Composite}
-use Rattle.composite.specs.Bodies.{parts, rows, laid, compositeAs}
+use Rattle.composite.specs.Bodies.{parts, filledBodies, laid, compositeAs}
 use Rattle.composite.specs.Code.{Sound, unitOf, unitAt, splitInto}
 use Rattle.iscc.proofs.Parts.{rest-is}
-use Rattle.composite.proofs.Parts.{laid-length, laid-same, laid-flat, row-at, rows-same}
+use Rattle.composite.proofs.Parts.{laid-length, laid-same, laid-flat, filled-at, filled-same}
 use Rattle.composite.proofs.Made.{unit-at}
 use Rattle.composite.proofs.Bytes.{sound-of}
 
@@ -110,7 +110,7 @@ module _ (n s : ℕ) (r : Bool) (e : r ≡ eqb n 1) where
     pub own-none : q ≡ false → 0 ≡ cond (isSubtyped n) s 0
     own-none h = rw (← e, g, ← f, h)
 
--- a unit is put at a place of an area
+-- a unit is put at an offset of an area
 pub unit-put : (m : code.MainType) (s k : ℕ) (body out e : List ℕ) (at : ℕ) → k ≡ cond (isSubtyped (m .number)) s 0 → m .number < 5 → (isSubtyped (m .number) ≡ true → s ≤ 4) → length body ≡ 8
     → at + 10 ≤ length out
     → e ≡ areaAfter (writeUnit (headerOf m k 0 1) body (length (take (length out - at) (drop at out)))) (take (length out - at) (drop at out))
@@ -141,13 +141,13 @@ all-ok s u e =
 
 module _ (c : Composite) (ok : Sound c) where
   abbrev set : Set
-  set = setOf (c .length)
+  set = setOf (c .«length_number»)
 
   unit-ok : (i : ℕ) → i < unitCount set → Ok (c .subtype) (getD (unitSetAs set .units) i (record { number = 0 }))
   unit-ok i h =
       subst⁻¹ (Ok (c .subtype)) (unit-at set i h)
       (all-at (λ t. Ok (c .subtype) (mainTypeAs t)) (unitTypes set) i ID
-      (all-ok (c .subtype) set (ap (λ (l : ℕ). compositeSubtype l (c .subtype)) (number-back (c .length) (ok .number)) ∙ ok .subtype)) (omega (arith, types-count set)))
+      (all-ok (c .subtype) set (ap (λ (l : ℕ). compositeSubtype l (c .subtype)) (number-back (c .«length_number») (ok .number)) ∙ ok .subtype)) (omega (arith, types-count set)))
 
   pub unit-long : (i : ℕ) → i < unitCount set → length (itemBytes (unitAt c i)) ≡ 10
   unfolding unitAt
@@ -160,7 +160,7 @@ module _ (c : Composite) (ok : Sound c) where
   unfolding splitInto
   split-length = laid-length (λ i. itemBytes (unitAt c i)) 10 (unitCount set) unit-long
 
-  -- with the table's set and the rows in the code's hands
+  -- with the table's set and the filledBodies in the code's hands
   module _ (u : UnitSet) (eu : u ≡ unitSetAs set) (rs : List (List ℕ)) (er : rs ≡ c .bodies) where
     count-of : u .count ≡ unitCount set
     unfolding unitSetAs
@@ -209,7 +209,7 @@ module _ (s v : ℕ) (u : Set) (bodies : List (List ℕ)) (p : Permitted (compos
   unfolding unitAt compositeAs
   unit-is i h =
       let n : getD (unitSetAs (setOf (setNumber u)) .units) i (record { number = 0 }) ≡ mainTypeAs (getD (unitTypes u) i ID) = rw (set-back u) (unit-at u i h) in
-      let r : getD (rows (λ j. getD bodies j []) (unitCount u) 5) i [] ≡ getD bodies i [] = row-at (λ j. getD bodies j []) (unitCount u) 5 i h (omega (arith, count-most u)) in
+      let r : getD (filledBodies (λ j. getD bodies j []) (unitCount u) 5) i [] ≡ getD bodies i [] = filled-at (λ j. getD bodies j []) (unitCount u) 5 i h (omega (arith, count-most u)) in
       let t : typeOf (number (getD (unitTypes u) i ID)) ≡ getD (unitTypes u) i ID = type-number (getD (unitTypes u) i ID) in
       rw (n, r, t) (sym (zip-at (unitWith s) (unitTypes u) bodies i ID [] _ (omega (arith, types-count u)) (omega (arith, p .count))))
 
@@ -228,9 +228,9 @@ module _ (s v : ℕ) (u : Set) (bodies : List (List ℕ)) (p : Permitted (compos
       sym (items-flat us) ∙ sym (laid-flat (λ i. itemBytes (unitAt value i)) (map itemBytes us) bytes-is) ∙ ap (laid (λ i. itemBytes (unitAt value i))) n
 
 -- the bodies behind a composite's header
-rows-in : (s v : ℕ) (u : Set) (bs : List ℕ) → compositeAs (compositeOf s v u bs) ≡ parts (setNumber u) s (rows (λ i. take 8 (drop (i * 8) bs)) (unitCount u) 5)
+rows-in : (s v : ℕ) (u : Set) (bs : List ℕ) → compositeAs (compositeOf s v u bs) ≡ parts (setNumber u) s (filledBodies (λ i. take 8 (drop (i * 8) bs)) (unitCount u) 5)
 unfolding compositeAs compositeOf
-rows-in s v u bs = ap (parts (setNumber u) s) (rows-same _ _ (unitCount u) 5 (λ i h. cut-at 8 (unitCount u) bs i h))
+rows-in s v u bs = ap (parts (setNumber u) s) (filled-same _ _ (unitCount u) 5 (λ i h. cut-at 8 (unitCount u) bs i h))
 
 -- ---- split
 
@@ -242,7 +242,7 @@ other-type s v l body =
 
 -- the composite of a header's numbers and its body, and the units that it is split into
 abbrev rowed : ℕ → ℕ → List ℕ → Composite
-rowed s l body = parts l s (rows (λ i. take 8 (drop (i * 8) body)) (unitCount (setOf l)) 5)
+rowed s l body = parts l s (filledBodies (λ i. take 8 (drop (i * 8) body)) (unitCount (setOf l)) 5)
 
 module _ (s v l : ℕ) (body : List ℕ) (p : PermittedItem (record { mainType = ISCC; subtype = s; version = v; lengthNo = l; body = body })) where
   abbrev item : Item
@@ -254,7 +254,7 @@ module _ (s v l : ℕ) (body : List ℕ) (p : PermittedItem (record { mainType =
   as-rows : compositeAs (compositeOf s v (setOf l) body) ≡ rowed s l body
   as-rows =
       rows-in s v (setOf l) body
-      ∙ ap (λ (n : ℕ). parts n s (rows (λ i. take 8 (drop (i * 8) body)) (unitCount (setOf l)) 5)) (number-back l small-number)
+      ∙ ap (λ (n : ℕ). parts n s (filledBodies (λ i. take 8 (drop (i * 8) body)) (unitCount (setOf l)) 5)) (number-back l small-number)
 
   bodies-permitted : Permitted (compositeOf s v (setOf l) body)
   unfolding meaningAs
@@ -294,13 +294,13 @@ module _ (bs : List ℕ) (u : Unit) (w : OneIs bs u) where
     code-room = omega (arith, rw (type-is, w .lengthNo) at (w .whole))
 
     abbrev splitRows : Composite
-    splitRows = parts (u .length) (u .subtype) (rows (λ i. take 8 (drop (2 + i * 8) bs)) (unitCount (setOf (u .length))) 5)
+    splitRows = parts (u .length) (u .subtype) (filledBodies (λ i. take 8 (drop (2 + i * 8) bs)) (unitCount (setOf (u .length))) 5)
 
     same-rows : rowed (u .subtype) (u .length) (w .item .body) ≡ splitRows
     same-rows =
         let e : w .item .body ≡ drop 2 bs = w .body ∙ ap (λ (k : ℕ). drop k bs) (w .start) in
         ap (parts (u .length) (u .subtype))
-        (rows-same _ _ (unitCount (setOf (u .length))) 5 (λ i h. ap (take 8) (ap (drop (i * 8)) e ∙ drop-drop (i * 8) 2 bs)))
+        (filled-same _ _ (unitCount (setOf (u .length))) 5 (λ i h. ap (take 8) (ap (drop (i * 8)) e ∙ drop-drop (i * 8) 2 bs)))
 
     module _ (k : Below 256 bs) where
       abbrev whole : Item

@@ -1,28 +1,27 @@
 -- A composite by value, and the meaning that it has. Assumes nothing.
 use Prim.Native.Nat.{ℕ, zero, suc}
 use mathlib.Core.Path.{_≡_}
-use mathlib.Core.Bool.{cond, not}
+use mathlib.Core.Bool.{cond}
 use mathlib.Core.List.{List, [], _∷_, _++_}
-use lib.ListN.{length, getD, replicate}
-use lib.Dec.{eqb}
+use lib.ListN.{getD, replicate}
 use Rattle.iscc.specs.Answer.{accept}
-use Rattle.iscc.specs.Permitted.{Set, setNumber, unitCount}
+use Rattle.iscc.specs.Permitted.{META, SEMANTIC, CONTENT, Set, setNumber, unitCount}
 use Rattle.iscc.specs.Meaning.{Meaning, unit, composite, Permitted}
 use Rattle.iscc.specs.Item.{Item}
 use Rattle.iscc.specs.Items.{compositeFrom}
 use Rattle.iscc.specs.declared.main_type.MainType.{MainType}
 use Rattle.units.specs.declared.summary.Summary.{Summary}
-use Rattle.units.specs.Summary.{Summarizes, anySubtyped}
+use Rattle.units.specs.Summary.{Summarizes, hasOffset, anySubtyped}
 use Rattle.composite.specs.declared.bodies.Composite.{Composite}
 
 abbrev pub parts : ℕ → ℕ → List (List ℕ) → Composite
-parts l s bodies = record { length = l; subtype = s; bodies = bodies }
+parts l s bodies = record { «length_number» = l; subtype = s; bodies = bodies }
 
--- k bodies: n of them by their index, and zeros
-unfoldable pub rows : (ℕ → List ℕ) → ℕ → ℕ → List (List ℕ)
-rows f n zero = []
-rows f zero (suc k) = replicate 8 0 ∷ rows f zero k
-rows f (suc n) (suc k) = f 0 ∷ rows (λ i. f (suc i)) n k
+-- k bodies: n of them by their index, filled up with zeros
+unfoldable pub filledBodies : (ℕ → List ℕ) → ℕ → ℕ → List (List ℕ)
+filledBodies f n zero = []
+filledBodies f zero (suc k) = replicate 8 0 ∷ filledBodies f zero k
+filledBodies f (suc n) (suc k) = f 0 ∷ filledBodies (λ i. f (suc i)) n k
 
 -- n parts end to end, by their index
 unfoldable pub laid : (ℕ → List ℕ) → ℕ → List ℕ
@@ -31,7 +30,7 @@ laid f (suc n) = laid f n ++ f n
 
 -- a composite's meaning by value; a unit has none
 unfoldable pub compositeAs : Meaning → Composite
-compositeAs (composite s v units bodies) = parts (setNumber units) s (rows (λ i. getD bodies i []) (unitCount units) 5)
+compositeAs (composite s v units bodies) = parts (setNumber units) s (filledBodies (λ i. getD bodies i []) (unitCount units) 5)
 compositeAs (unit m s v body) = parts 0 0 []
 
 -- ---- from a list's summary
@@ -43,13 +42,13 @@ pub record Makes (bs : List ℕ) (l : Summary) (m : Meaning) : Type 0 where
   pub made : compositeFrom items ≡ accept m
   pub permitted : Permitted m
 
--- the place of the i-th unit's body
-abbrev pub placeIn : List ℕ → List MainType → ℕ → ℕ
-placeIn places units i = getD places (getD units i (record { number = 0 }) .number) 0
+-- the offset of the i-th unit's body
+abbrev pub offsetIn : List ℕ → List MainType → ℕ → ℕ
+offsetIn offsets units i = getD offsets (getD units i (record { number = 0 }) .number) 0
 
--- the set of units that have a place
-abbrev pub setAt : List ℕ → Set
-setAt places = record { meta = not (eqb (getD places 0 0) 0); semantic = not (eqb (getD places 1 0) 0); content = not (eqb (getD places 2 0) 0) }
+-- the set of units that have a body
+abbrev pub setOfOffsets : List ℕ → Set
+setOfOffsets offsets = record { meta = hasOffset offsets META; semantic = hasOffset offsets SEMANTIC; content = hasOffset offsets CONTENT }
 
-unfoldable pub subtypeAt : Summary → ℕ
-subtypeAt l = cond (anySubtyped (l .places)) (l .subtype) (cond (eqb (getD (l .places) 0 0) 0) 5 6)
+unfoldable pub summarySubtype : Summary → ℕ
+summarySubtype l = cond (anySubtyped (l .offsets)) (l .subtype) (cond (hasOffset (l .offsets) META) 6 5)

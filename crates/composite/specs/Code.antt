@@ -5,7 +5,6 @@ use mathlib.Core.Bool.{true, cond}
 use mathlib.Core.List.{List, [], _++_}
 use lib.ListN.{getD}
 use lib.ListN as lists
-use Rattle.iscc.specs.Answer.{Answer, accept, refuse, _>>=_}
 use Rattle.iscc.specs.Header.{Header, headerBytes}
 use Rattle.iscc.specs.Permitted.{ISCC, number, typeOf, setOf, unitCount, compositeSubtype}
 use Rattle.iscc.specs.Item.{Item, itemBytes}
@@ -17,15 +16,15 @@ use Rattle.composite.specs.Bodies.{laid}
 
 -- one of the eight sets, a subtype that the rules allow for it, and bodies of eight bytes
 pub record Sound (c : Composite) : Type 0 where
-  pub number : c .length ≤ 7
-  pub subtype : compositeSubtype (c .length) (c .subtype) ≡ true
+  pub number : c .«length_number» ≤ 7
+  pub subtype : compositeSubtype (c .«length_number») (c .subtype) ≡ true
   pub bodies : (i : ℕ) → i < 5 → lists.length (getD (c .bodies) i []) ≡ 8
 
-abbrev pub codeHeader : Composite → Header
-codeHeader c = record { mainType = number ISCC; subtype = c .subtype; version = 0; lengthNo = c .length }
+abbrev pub compositeHeader : Composite → Header
+compositeHeader c = record { mainType = number ISCC; subtype = c .subtype; version = 0; lengthNo = c .«length_number» }
 
-unfoldable pub codeBytes : Composite → List ℕ
-codeBytes c = headerBytes (codeHeader c) ++ laid (λ i. getD (c .bodies) i []) (unitCount (setOf (c .length)))
+unfoldable pub compositeBytes : Composite → List ℕ
+compositeBytes c = headerBytes (compositeHeader c) ++ laid (λ i. getD (c .bodies) i []) (unitCount (setOf (c .«length_number»)))
 
 -- a unit of 64 bits: SEMANTIC and CONTENT take the composite's subtype, and the others 0
 abbrev pub unitOf : ℕ → ℕ → List ℕ → Item
@@ -33,7 +32,7 @@ unitOf n s body = unit64 (typeOf n) (cond (isSubtyped n) s 0) body
 
 -- the i-th unit of a composite
 unfoldable pub unitAt : Composite → ℕ → Item
-unitAt c i = unitOf (getD (unitSetAs (setOf (c .length)) .units) i (record { number = 0 }) .number) (c .subtype) (getD (c .bodies) i [])
+unitAt c i = unitOf (getD (unitSetAs (setOf (c .«length_number»)) .units) i (record { number = 0 }) .number) (c .subtype) (getD (c .bodies) i [])
 
 unfoldable pub splitInto : Composite → List ℕ
-splitInto c = laid (λ i. itemBytes (unitAt c i)) (unitCount (setOf (c .length)))
+splitInto c = laid (λ i. itemBytes (unitAt c i)) (unitCount (setOf (c .«length_number»)))

@@ -7,29 +7,29 @@ ghost use Rattle.composite.specs.Bodies.{parts};
 
 // Its length number, by which the table of sets tells the units in it; its subtype; their bodies in the composite's order, then zeros.
 pub struct Composite {
-    pub length: usize,
+    pub length_number: usize,
     pub subtype: u32,
     pub bodies: [[u8; 8]; 5],
 }
 
-pub fn made(length: usize, subtype: u32, bodies: [[u8; 8]; 5]) -> Composite
-    ensures { λ r. ⌜ r ≡ parts length subtype bodies ⌝ }
+pub(crate) fn from_parts(length_number: usize, subtype: u32, bodies: [[u8; 8]; 5]) -> Composite
+    ensures { λ r. ⌜ r ≡ parts «length_number» subtype bodies ⌝ }
 {
     Composite {
-        length,
+        length_number,
         subtype,
         bodies,
     }
 }
 
-pub fn bodies_of(c: Composite) -> [[u8; 8]; 5]
+pub(crate) fn bodies_of(c: Composite) -> [[u8; 8]; 5]
     ensures { λ r. ⌜ r ≡ c .bodies ⌝ }
 {
     c.bodies
 }
 
-// The eight bytes at a place.
-pub(crate) fn eight(bytes: &[u8], at: usize) -> [u8; 8]
+// The eight bytes at an offset.
+pub(crate) fn eight_bytes(bytes: &[u8], at: usize) -> [u8; 8]
     requires { ⌜ at + 8 ≤ length (now bytes) ⌝ }
     ensures { λ r. ⌜ r ≡ take 8 (drop at (now (bytes .entry))) ⌝ }
 {
@@ -45,7 +45,7 @@ pub(crate) fn eight(bytes: &[u8], at: usize) -> [u8; 8]
     ]
 }
 
-// One body, at a place of an area.
+// One body, at an offset of an area.
 pub(crate) fn put(body: [u8; 8], at: usize, out: &mut [u8])
     requires { ⌜ at + 8 ≤ length (now out) ⌝ }
     ensures { λ _. ⌜ now (out .exit) ≡ take at (now (out .entry)) ++ (body ++ drop (at + 8) (now (out .entry))) ⌝ }

@@ -7,60 +7,65 @@ ghost use lib.Dec.{eqb};
 ghost use Rattle.iscc.specs.Permitted.{weight, setNumber, setOf, unitCount};
 ghost use Rattle.iscc.specs.Meaning.{Meaning};
 ghost use Rattle.units.specs.Summary.{anySubtyped};
-ghost use Rattle.composite.specs.Bodies.{rows, parts, placeIn, setAt, subtypeAt, Makes, compositeAs};
+ghost use Rattle.composite.specs.Bodies.{filledBodies, parts, offsetIn, setOfOffsets, summarySubtype, Makes, compositeAs};
 use crate::bodies;
 use crate::bodies::Composite;
+use iscc::main_type::MainType;
 use iscc::tables;
 use iscc::tables::UnitSet;
 use units::summary;
 use units::summary::Summary;
 
-// What a unit adds to the length number where its body has a place.
-fn weigh(full: usize, place: usize) -> usize
-    ensures { λ r. ⌜ (r ≡ weight full (not (eqb place 0))) × (r ≤ full) ⌝ }
+// What a unit adds to the length number where it has a body.
+fn weight_of(full: usize, offset: usize) -> usize
+    ensures { λ r. ⌜ (r ≡ weight full (not (eqb offset 0))) × (r ≤ full) ⌝ }
 {
-    if place == 0 {
+    if offset == 0 {
         return 0;
     }
     full
 }
 
-// The length number of the set of units that have a place.
-fn set_number(places: [usize; 7]) -> usize
-    ensures { λ r. ⌜ (r ≡ setNumber (setAt places)) × (r ≤ 7) ⌝ }
+// The length number of the set of units that have a body.
+fn set_number(offsets: [usize; 7]) -> usize
+    ensures { λ r. ⌜ (r ≡ setNumber (setOfOffsets offsets)) × (r ≤ 7) ⌝ }
 {
-    weigh(4, places[0]) + weigh(2, places[1]) + weigh(1, places[2])
+    let meta = weight_of(4, summary::offset_of(offsets, MainType::META));
+    let semantic = weight_of(2, summary::offset_of(offsets, MainType::SEMANTIC));
+    let content = weight_of(1, summary::offset_of(offsets, MainType::CONTENT));
+    meta + semantic + content
 }
 
 // 5 with neither SEMANTIC nor CONTENT, 6 with META alone, and otherwise the subtype that they share.
 fn subtype_of(list: Summary) -> u32
-    ensures { λ r. ⌜ r ≡ subtypeAt list ⌝ }
+    ensures { λ r. ⌜ r ≡ summarySubtype list ⌝ }
 {
     if summary::any_subtyped(list) {
         return list.subtype;
     }
-    if list.places[0] == 0 {
+    let offsets = list.offsets;
+    if summary::offset_of(offsets, MainType::META) == 0 {
         return 5;
     }
     6
 }
 
-// The bodies of a set's units, each from its place.
-fn rows_of(bytes: &[u8], places: [usize; 7], set: UnitSet) -> [[u8; 8]; 5]
-    requires { ⌜ (set .count ≤ 5) × ((i : ℕ) → i < set .count → (getD (set .units) i (record { number = 0 }) .number < 7) × (placeIn places (set .units) i + 8 ≤ length (now bytes))) ⌝ }
-    ensures { λ r. ⌜ r ≡ rows (λ i. take 8 (drop (placeIn places (set .units) i) (now (bytes .entry)))) (set .count) 5 ⌝ }
+// The bodies of a set's units, each from its offset.
+fn bodies_at(bytes: &[u8], offsets: [usize; 7], set: UnitSet) -> [[u8; 8]; 5]
+    requires { ⌜ (set .count ≤ 5) × ((i : ℕ) → i < set .count → (getD (set .units) i (record { number = 0 }) .number < 7) × (offsetIn offsets (set .units) i + 8 ≤ length (now bytes))) ⌝ }
+    ensures { λ r. ⌜ r ≡ filledBodies (λ i. take 8 (drop (offsetIn offsets (set .units) i) (now (bytes .entry)))) (set .count) 5 ⌝ }
 {
     let count = set.count;
     let units = set.units;
-    let mut rows = [[0u8; 8]; 5];
+    let mut found = [[0u8; 8]; 5];
     let mut i: usize = 0;
     while i < count {
         let number = units[i].number() as usize;
-        let at = places[number];
-        rows[i] = bodies::eight(bytes, at);
+        let at = offsets[number];
+        found[i] = bodies::eight_bytes(bytes, at);
         i += 1;
     }
-    rows
+    found
 }
 
 // The composite that a list makes.
@@ -68,33 +73,33 @@ pub(crate) fn from_list(bytes: &[u8], list: Summary) -> Composite
     requires { ⌜ ((m : Meaning) × Makes (now bytes) list m) ⌝ }
     ensures { λ r. ⌜ ((m : Meaning) → Makes (now (bytes .entry)) list m → r ≡ compositeAs m) ⌝ }
 {
-    let places = list.places;
-    let length = set_number(places);
-    let set = tables::unit_set(length);
-    let rows = rows_of(bytes, places, set);
-    bodies::made(length, subtype_of(list), rows)
+    let offsets = list.offsets;
+    let length_number = set_number(offsets);
+    let set = tables::unit_set(length_number);
+    let found = bodies_at(bytes, offsets, set);
+    bodies::from_parts(length_number, subtype_of(list), found)
 }
 
 // The bodies behind a header of two bytes.
-fn rows_behind(bytes: &[u8], count: usize) -> [[u8; 8]; 5]
+fn bodies_behind(bytes: &[u8], count: usize) -> [[u8; 8]; 5]
     requires { ⌜ (count ≤ 5) × (2 + count * 8 ≤ length (now bytes)) ⌝ }
-    ensures { λ r. ⌜ r ≡ rows (λ i. take 8 (drop (2 + i * 8) (now (bytes .entry)))) count 5 ⌝ }
+    ensures { λ r. ⌜ r ≡ filledBodies (λ i. take 8 (drop (2 + i * 8) (now (bytes .entry)))) count 5 ⌝ }
 {
-    let mut rows = [[0u8; 8]; 5];
+    let mut found = [[0u8; 8]; 5];
     let mut i: usize = 0;
     while i < count {
-        rows[i] = bodies::eight(bytes, 2 + i * 8);
+        found[i] = bodies::eight_bytes(bytes, 2 + i * 8);
         i += 1;
     }
-    rows
+    found
 }
 
 // The composite whose own bytes these are, by the subtype and the length number of its header.
-pub(crate) fn from_code(bytes: &[u8], subtype: u32, number: usize) -> Composite
-    requires { ⌜ 2 + unitCount (setOf number) * 8 ≤ length (now bytes) ⌝ }
-    ensures { λ r. ⌜ r ≡ parts number subtype (rows (λ i. take 8 (drop (2 + i * 8) (now (bytes .entry)))) (unitCount (setOf number)) 5) ⌝ }
+pub(crate) fn from_code(bytes: &[u8], subtype: u32, length_number: usize) -> Composite
+    requires { ⌜ 2 + unitCount (setOf «length_number») * 8 ≤ length (now bytes) ⌝ }
+    ensures { λ r. ⌜ r ≡ parts «length_number» subtype (filledBodies (λ i. take 8 (drop (2 + i * 8) (now (bytes .entry)))) (unitCount (setOf «length_number»)) 5) ⌝ }
 {
-    let set = tables::unit_set(number);
-    let rows = rows_behind(bytes, set.count);
-    bodies::made(number, subtype, rows)
+    let set = tables::unit_set(length_number);
+    let found = bodies_behind(bytes, set.count);
+    bodies::from_parts(length_number, subtype, found)
 }

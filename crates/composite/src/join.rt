@@ -1,31 +1,16 @@
 // Joins units laid end to end to one composite.
 ghost use mathlib.Core.Path.{_≡_};
 ghost use lib.ListN.{length};
-ghost use Rattle.iscc.specs.Answer.{accept, areaAfter, into};
-ghost use Rattle.iscc.specs.Meaning.{Meaning};
-ghost use Rattle.iscc.specs.Item.{itemBytes, itemOf};
+ghost use Rattle.iscc.specs.Answer.{areaAfter, into};
 ghost use Rattle.iscc.specs.Items as items;
 ghost use Rattle.iscc.specs.Forms.{writtenAs};
-ghost use Rattle.composite.specs.Bodies.{Makes};
 ghost use Rattle.composite.specs.Joined.{Listed, composedBytes, singleRefusal};
-use crate::gather;
-use crate::writer;
+use crate::code;
+use iscc::code::CodeAnswer;
 use iscc::refusal::Refusal;
 use iscc::written::Written;
 use units::reader::Reading;
 use units::summary::Summary;
-use units::verdict;
-use units::verdict::Verdict;
-
-// Writes the composite that a list makes, or 15.
-pub(crate) fn write_list(bytes: &[u8], list: Summary, out: &mut [u8]) -> Written
-    requires { ⌜ ((m : Meaning) × Makes (now bytes) list m) ⌝ }
-    ensures answer { λ r. ⌜ ((m : Meaning) → Makes (now (bytes .entry)) list m → r ≡ writtenAs (into (length (now (out .entry))) (accept (itemBytes (itemOf m))))) ⌝ }
-    ensures area { λ r. ⌜ ((m : Meaning) → Makes (now (bytes .entry)) list m → now (out .exit) ≡ areaAfter (into (length (now (out .entry))) (accept (itemBytes (itemOf m)))) (now (out .entry))) ⌝ }
-{
-    let c = gather::from_list(bytes, list);
-    writer::write(c, out)
-}
 
 // Joins a list of two or more: 10 to 14, then 15.
 fn join_list(bytes: &[u8], list: Summary, out: &mut [u8]) -> Written
@@ -33,10 +18,20 @@ fn join_list(bytes: &[u8], list: Summary, out: &mut [u8]) -> Written
     ensures answer { λ r. ⌜ r ≡ writtenAs (into (length (now (out .entry))) (composedBytes (now (bytes .entry)))) ⌝ }
     ensures area { λ r. ⌜ now (out .exit) ≡ areaAfter (into (length (now (out .entry))) (composedBytes (now (bytes .entry)))) (now (out .entry)) ⌝ }
 {
-    let verdict = verdict::decide(list);
-    match verdict {
-        Verdict::Refused(q, _) => Written::Refused(q),
-        Verdict::Composite => write_list(bytes, list, out),
+    let read = code::of_list(bytes, list);
+    let answer = read.answer;
+    let joined = read.code;
+    match answer {
+        CodeAnswer::Refused(q, _) => Written::Refused(q),
+        CodeAnswer::Accepted => {
+            let length = joined.length;
+            if out.len() < length {
+                return Written::Refused(Refusal::AREA_TOO_SHORT);
+            }
+            let area = joined.bytes;
+            bytes::copy(&area[0..length], out);
+            Written::Length(length)
+        }
     }
 }
 

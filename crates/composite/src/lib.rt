@@ -1,7 +1,7 @@
 // Composites: units joined to one, and one split into its units.
-pub mod bodies;
+mod bodies;
 pub mod code;
-pub mod gather;
+mod gather;
 pub mod join;
 pub mod split;
-pub mod writer;
+mod writer;

@@ -7,13 +7,13 @@ ghost use lib.ListN.{length, take, drop, getD};
 ghost use Rattle.iscc.specs.Answer.{accept, areaAfter, into};
 ghost use Rattle.iscc.specs.Permitted.{setOf, unitCount};
 ghost use Rattle.iscc.specs.Item.{itemBytes};
-ghost use Rattle.iscc.specs.Forms.{writtenAs, unitSetAs};
+ghost use Rattle.iscc.specs.Forms.{writtenAs, unitSetAs, codeAs};
 ghost use Rattle.units.specs.Summary.{isSubtyped};
 ghost use Rattle.composite.specs.Bodies.{laid};
-ghost use Rattle.composite.specs.Code.{Sound, codeBytes, unitOf, unitAt, splitInto};
+ghost use Rattle.composite.specs.Code.{Sound, compositeBytes, unitOf, unitAt, splitInto};
 use crate::bodies;
 use crate::bodies::Composite;
-use header::Header;
+use iscc::code::Code;
 use iscc::main_type::MainType;
 use iscc::refusal::Refusal;
 use iscc::tables;
@@ -21,47 +21,33 @@ use iscc::tables::UnitSet;
 use iscc::written::Written;
 
 // The first bodies end to end, at the front of an area.
-fn put_bodies(rows: [[u8; 8]; 5], count: usize, out: &mut [u8])
-    requires { ⌜ (count ≤ 5) × (count * 8 ≤ length (now out)) × ((i : ℕ) → i < 5 → length (getD rows i []) ≡ 8) ⌝ }
-    ensures { λ _. ⌜ now (out .exit) ≡ laid (λ i. getD rows i []) count ++ drop (count * 8) (now (out .entry)) ⌝ }
+fn put_bodies(bodies: [[u8; 8]; 5], count: usize, out: &mut [u8])
+    requires { ⌜ (count ≤ 5) × (count * 8 ≤ length (now out)) × ((i : ℕ) → i < 5 → length (getD bodies i []) ≡ 8) ⌝ }
+    ensures { λ _. ⌜ now (out .exit) ≡ laid (λ i. getD bodies i []) count ++ drop (count * 8) (now (out .entry)) ⌝ }
 {
     let mut i: usize = 0;
     while i < count {
-        bodies::put(rows[i], i * 8, out);
+        bodies::put(bodies[i], i * 8, out);
         i += 1;
     }
 }
 
-// A composite's header of two bytes, and its bodies.
-fn lay(c: Composite, count: usize, out: &mut [u8])
-    requires { ⌜ Sound c × (count ≡ unitCount (setOf (c .length))) × (count ≤ 5) × (2 + count * 8 ≤ length (now out)) ⌝ }
-    ensures { λ _. ⌜ now (out .exit) ≡ areaAfter (accept (codeBytes c)) (now (out .entry)) ⌝ }
-{
-    let rows = bodies::bodies_of(c);
-    let h = Header {
-        main_type: MainType::ISCC.number(),
-        subtype: c.subtype,
-        version: 0,
-        length: c.length as u32,
-    };
-    header::writer::write(h, out);
-    put_bodies(rows, count, &mut out[2..]);
-}
-
-// Writes a composite as its own bytes, or 15.
-pub(crate) fn write(c: Composite, out: &mut [u8]) -> Written
+// The code of a composite: a header of two bytes, a nibble a number, and its bodies.
+pub(crate) fn code(c: Composite) -> Code
     requires { ⌜ Sound c ⌝ }
-    ensures answer { λ r. ⌜ r ≡ writtenAs (into (length (now (out .entry))) (accept (codeBytes c))) ⌝ }
-    ensures area { λ r. ⌜ now (out .exit) ≡ areaAfter (into (length (now (out .entry))) (accept (codeBytes c))) (now (out .entry)) ⌝ }
+    ensures { λ r. ⌜ r ≡ codeAs (compositeBytes c) ⌝ }
 {
-    let set = tables::unit_set(c.length);
+    let bodies = bodies::bodies_of(c);
+    let set = tables::unit_set(c.length_number);
     let count = set.count;
-    let size = 2 + count * 8;
-    if out.len() < size {
-        return Written::Refused(Refusal::AREA_TOO_SHORT);
+    let mut bytes = [0u8; 42];
+    bytes[0] = (MainType::ISCC.number() * 16 + c.subtype) as u8;
+    bytes[1] = c.length_number as u8;
+    put_bodies(bodies, count, &mut bytes[2..]);
+    Code {
+        bytes,
+        length: 2 + count * 8,
     }
-    lay(c, count, out);
-    Written::Length(size)
 }
 
 // SEMANTIC and CONTENT take the composite's subtype, the other units have 0.
@@ -77,7 +63,7 @@ fn unit_subtype(main_type: MainType, subtype: u32) -> u32
     0
 }
 
-// A unit of 64 bits, at a place of an area.
+// A unit of 64 bits, at an offset of an area.
 fn put_unit(main_type: MainType, subtype: u32, body: [u8; 8], at: usize, out: &mut [u8])
     requires { ⌜ («main_type» .number < 5) × (isSubtyped («main_type» .number) ≡ true → subtype ≤ 4) × (at + 10 ≤ length (now out)) ⌝ }
     ensures { λ _. ⌜ now (out .exit) ≡ take at (now (out .entry)) ++ (itemBytes (unitOf («main_type» .number) subtype body) ++ drop (at + 10) (now (out .entry))) ⌝ }
@@ -88,16 +74,16 @@ fn put_unit(main_type: MainType, subtype: u32, body: [u8; 8], at: usize, out: &m
 
 // A composite's units end to end, at the front of an area.
 fn put_units(c: Composite, set: UnitSet, out: &mut [u8])
-    requires { ⌜ Sound c × (set ≡ unitSetAs (setOf (c .length))) × (set .count ≤ 5) × (set .count * 10 ≤ length (now out)) ⌝ }
+    requires { ⌜ Sound c × (set ≡ unitSetAs (setOf (c .«length_number»))) × (set .count ≤ 5) × (set .count * 10 ≤ length (now out)) ⌝ }
     ensures { λ _. ⌜ now (out .exit) ≡ laid (λ i. itemBytes (unitAt c i)) (set .count) ++ drop (set .count * 10) (now (out .entry)) ⌝ }
 {
-    let rows = bodies::bodies_of(c);
+    let bodies = bodies::bodies_of(c);
     let units = set.units;
-    let count = set.count;
+    let unit_count = set.count;
     let subtype = c.subtype;
     let mut i: usize = 0;
-    while i < count {
-        put_unit(units[i], subtype, rows[i], i * 10, out);
+    while i < unit_count {
+        put_unit(units[i], subtype, bodies[i], i * 10, out);
         i += 1;
     }
 }
@@ -108,7 +94,7 @@ pub(crate) fn write_units(c: Composite, out: &mut [u8]) -> Written
     ensures answer { λ r. ⌜ r ≡ writtenAs (into (length (now (out .entry))) (accept (splitInto c))) ⌝ }
     ensures area { λ r. ⌜ now (out .exit) ≡ areaAfter (into (length (now (out .entry))) (accept (splitInto c))) (now (out .entry)) ⌝ }
 {
-    let set = tables::unit_set(c.length);
+    let set = tables::unit_set(c.length_number);
     let size = set.count * 10;
     if out.len() < size {
         return Written::Refused(Refusal::AREA_TOO_SHORT);

@@ -1,2 +1,4 @@
--- The doors' answers as C has them.
+-- The entries' answers as C has them, and what they promise.
 pub mod Laws
+pub mod Numbers
+pub mod Demand3

@@ -11,8 +11,8 @@ use borrow.Author.Tests.{not-true, not-false}
 use Rattle.iscc.specs.Alphabet.{upper}
 use Rattle.iscc.specs.Doors.{isBlank, trimEnd, sameText, scheme, schemeLength}
 use Rattle.iscc.proofs.Text.{trimEnd-skip, trimEnd-stop}
-use Rattle.door.specs.Places.{blanksIn}
-use Rattle.door.proofs.Same.{same-next, same-not, same-shorter, same-end}
+use Rattle.door.specs.Offsets.{blanksIn}
+use Rattle.octets.proofs.Same.{same-next, same-not, same-shorter, same-end}
 
 -- ---- blanks at the start: those from i on
 

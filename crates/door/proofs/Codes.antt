@@ -1,40 +1,28 @@
--- The code that a text holds: the bytes of its run, read as items. Assumes nothing.
-use Prim.Native.Nat.{ℕ, _+_, _-_, _≤_}
+-- The code that a text holds: the bytes of its run, read as items; and the call that writes it.
+use Prim.Native.Nat.{ℕ, _-_, _≤_, _<_}
 use mathlib.Core.Path.{_≡_, refl, sym, _∙_, ap}
-use mathlib.Core.List.{List}
+use mathlib.Core.List.{List, _++_}
 use native.Mathlib.Omega.{arith}
-use lib.ListN.{length, take, drop, length-append}
-use lib.Seq.{take-at}
-use Rattle.iscc.specs.Refusals.{Refusal}
-use Rattle.iscc.specs.Answer.{Answer, accept, refuse, _>>=_, areaAfter}
+use lib.ListN.{length, take, drop, replicate}
+use lib.Seq.{take-length, length-take-le}
+use borrow.Author.Tests.{le-leb, lt-leb}
+use Rattle.iscc.specs.Refusals.{Refusal, areaTooShort}
+use Rattle.iscc.specs.Answer.{Answer, accept, refuse, _>>=_, into, areaAfter}
 use Rattle.iscc.specs.Item.{Item, itemBytes, itemOf}
 use Rattle.iscc.specs.Items.{readItems, meaningOfItems}
-use Rattle.iscc.specs.Doors.{payload, codeOf, meaningOfText, codeBytes}
-use Rattle.composite.specs.Canonical.{codedAs, placeOf, canonicalBytes}
-use Rattle.door.specs.Payloads.{payloadPlace}
-use Rattle.door.specs.Codes.{codePlace}
-use Rattle.composite.specs.declared.code.Coded.{Coded}
-use Rattle.composite.specs.declared.code.Coded.the-variants as coded
-
--- ---- an answer that is told, and the area a after it, of which z was lent
-
--- the n bytes that were written stand in front
-pub written-front : (out a z : List ℕ) (n : ℕ) → n ≡ length out → a ≡ areaAfter (accept out) z → (out ≡ take (n - 0) a) × (n ≤ length a)
-written-front out a z n q f =
-    let m : n - 0 ≡ length out = omega arith in
-    let l : length a ≡ length out + length (drop (length out) z) = ap length f ∙ length-append out (drop (length out) z) in
-    (sym (ap (λ (j : ℕ). take j a) m ∙ ap (take (length out)) f ∙ take-at out (drop (length out) z) (length out) refl), omega arith)
-
-pub coded-bytes : (x : Answer (List ℕ)) (k n : ℕ) (a z : List ℕ) → coded.Length n ≡ codedAs k x → a ≡ areaAfter x z → (x ≡ accept (take (n - 0) a)) × (n ≤ length a)
-coded-bytes (accept bs) k n a z e f = let w = written-front bs a z n (cc) f in (ap accept (w .0), w .1)
-coded-bytes (refuse q) k n a z e f = let o : _≡_ {A = ℕ} 0 1 = cc in absurd (omega arith)
-
-pub coded-count : (x : Answer (List ℕ)) (k n : ℕ) (bs : List ℕ) → coded.Length n ≡ codedAs k x → x ≡ accept bs → n ≡ length bs
-coded-count x k n bs e f = let g : coded.Length n ≡ coded.Length (length bs) = e ∙ ap (codedAs k) f in cc
-
-pub coded-refused : (x : Answer (List ℕ)) (k p : ℕ) (q : Refusal) → coded.Refused q p ≡ codedAs k x → (x ≡ refuse q) × (k ≡ p)
-coded-refused (accept bs) k p q e = let o : _≡_ {A = ℕ} 0 1 = cc in absurd (omega arith)
-coded-refused (refuse r) k p q e = let f : q ≡ r = cc in let g : k ≡ p = cc in (ap refuse (sym f), g)
+use Rattle.iscc.specs.Doors.{payload, codeOf, meaningOfText, codeBytes, readCode}
+use Rattle.iscc.specs.Forms.{codeReadAs}
+use Rattle.iscc.specs.declared.code.CodeRead.{CodeRead}
+use Rattle.iscc.specs.declared.code.CodeAnswer.the-variants as coded
+use Rattle.iscc.specs.declared.written.Written.the-variants as written
+use Rattle.iscc.proofs.Codes.{no-code, code-size}
+use Rattle.composite.specs.Canonical.{detailOf, canonicalBytes}
+use Rattle.door.specs.Payloads.{payloadDetail, payloadAnswerAs}
+use Rattle.door.specs.Codes.{codeDetail}
+use Rattle.door.specs.declared.payload.PayloadAnswer.{PayloadAnswer}
+use Rattle.door.specs.declared.payload.PayloadAnswer.the-variants as payload
+use Rattle.door.proofs.Payloads.{payload-fits}
+use Rattle.door.proofs.Answers.{Held, Told, told, payload-held, payload-not, code-held, code-not}
 
 -- ---- the code is that of the payload
 
@@ -50,27 +38,61 @@ code-behind t = go (payload t)
     go (accept bs) = items (readItems bs)
     go (refuse q) = refl
 
--- what the contract says of the answer r and the area e, once d was lent
-abbrev pub Found : List ℕ → List ℕ → Coded → List ℕ → Type 0
-Found t d r e = (r ≡ codedAs (codePlace t) (codeBytes t)) × (e ≡ areaAfter (codeBytes t) d)
+module _ (t : List ℕ) (r : PayloadAnswer) (answer : r ≡ payloadAnswerAs (payloadDetail t) (into 50 (payload t))) where
+  told-as : r ≡ payloadAnswerAs (payloadDetail t) (payload t)
+  told-as = answer ∙ ap (payloadAnswerAs (payloadDetail t)) (payload-fits t)
 
-module _ (t : List ℕ) (r : Coded) (answer : r ≡ codedAs (payloadPlace t) (payload t)) where
-  pub none-found : (d : List ℕ) (q : Refusal) (p : ℕ) → r ≡ coded.Refused q p → Found t d (coded.Refused q p) d
-  unfolding codePlace
-  none-found d q p e =
-      let f = coded-refused (payload t) (payloadPlace t) p q (sym e ∙ answer) in
-      let c : codeBytes t ≡ refuse q = code-behind t ∙ ap (λ (x : Answer (List ℕ)). x >>= canonicalBytes) (f .0) in
-      rw (c, f .0, f .1) (refl, refl)
+  pub none-found : (q : Refusal) (p : ℕ) → r ≡ payload.Refused q p
+      → record { answer = coded.Refused q p; code = record { bytes = replicate 42 0; length = 0 } } ≡ codeReadAs (codeDetail t) (codeBytes t)
+  unfolding codeDetail
+  none-found q p e =
+      let h = payload-not (payloadDetail t) (payload t) q p (sym e ∙ told-as) in
+      let c : codeBytes t ≡ refuse q = code-behind t ∙ ap (λ (x : Answer (List ℕ)). x >>= canonicalBytes) (h .0) in
+      rw (c, h .0, h .1, no-code)
 
-  module _ (n : ℕ) (a z : List ℕ) (counted : r ≡ coded.Length n) (after : a ≡ areaAfter (payload t) z) where
-    bytes-are : (payload t ≡ accept (take (n - 0) a)) × (n ≤ length a)
-    bytes-are = coded-bytes (payload t) (payloadPlace t) n a z (sym counted ∙ answer) after
+  module _ (n : ℕ) (a z : List ℕ) (counted : r ≡ payload.Length n) (after : a ≡ areaAfter (into 50 (payload t)) z) where
+    bytes-are : Held (payload t) a n
+    bytes-are = payload-held (payloadDetail t) (payload t) n a z (sym counted ∙ told-as) (after ∙ ap (λ (x : Answer (List ℕ)). areaAfter x z) (payload-fits t))
 
     pub bytes-fit : n ≤ length a
     bytes-fit = bytes-are .1
 
-    pub code-found : (d e : List ℕ) (w : Coded) → w ≡ codedAs (placeOf (take (n - 0) a)) (canonicalBytes (take (n - 0) a)) → e ≡ areaAfter (canonicalBytes (take (n - 0) a)) d → Found t d w e
-    unfolding codePlace
-    code-found d e w f g =
+    pub code-found : (s : CodeRead) → s ≡ codeReadAs (detailOf (take (n - 0) a)) (canonicalBytes (take (n - 0) a)) → s ≡ codeReadAs (codeDetail t) (codeBytes t)
+    unfolding codeDetail
+    code-found s f =
         let c : codeBytes t ≡ canonicalBytes (take (n - 0) a) = code-behind t ∙ ap (λ (x : Answer (List ℕ)). x >>= canonicalBytes) (bytes-are .0) in
-        rw (c, bytes-are .0) (f, g)
+        rw (c, bytes-are .0) f
+
+-- ---- the call that writes it: 15, then as the code says
+
+pub code-short : (t d : List ℕ) → length d < 42 → Told (readCode t (length d)) d (written.Refused areaTooShort) d
+unfolding readCode
+code-short t d l = rw (lt-leb 42 (length d) l) (refl, refl)
+
+read-code-is : (t : List ℕ) (n : ℕ) → 42 ≤ n → readCode t n ≡ codeBytes t
+unfolding readCode
+read-code-is t n l = rw (le-leb 42 n l)
+
+-- a code has at most 42 bytes
+code-most : (t bs : List ℕ) → codeBytes t ≡ accept bs → length bs ≤ 42
+code-most t bs e = code-size t bs 42 (read-code-is t 42 (omega arith) ∙ e) .1
+
+module _ (t : List ℕ) (k : ℕ) (r : CodeRead) (of : r ≡ codeReadAs k (codeBytes t)) where
+  pub code-refused : (d : List ℕ) (q : Refusal) (p : ℕ) → 42 ≤ length d → r .answer ≡ coded.Refused q p → Told (readCode t (length d)) d (written.Refused q) d
+  code-refused d q p room e = told d d _ (read-code-is t (length d) room ∙ code-not k (codeBytes t) r q p of e) (refl, refl)
+
+  module _ (found : r .answer ≡ coded.Accepted) where
+    abbrev held : List ℕ
+    held = take (r .code .length - 0) (r .code .bytes)
+
+    pub code-fits : r .code .length ≤ length (r .code .bytes)
+    code-fits = code-held k (codeBytes t) r of found .1
+
+    pub code-is : (codeBytes t ≡ accept held) × (length held ≤ 42)
+    code-is = let h = code-held k (codeBytes t) r of found .0 in (h, code-most t held h)
+
+    pub code-written : (d e : List ℕ) → 42 ≤ length d → e ≡ take (length held) held ++ drop (length held) d → Told (readCode t (length d)) d (written.Length (r .code .length)) e
+    code-written d e room f =
+        let n : r .code .length - 0 ≡ r .code .length = omega arith in
+        let m : r .code .length ≡ length held = sym (ap (λ (j : ℕ). length (take j (r .code .bytes))) n ∙ length-take-le (r .code .length) (r .code .bytes) code-fits) in
+        told d e _ (read-code-is t (length d) room ∙ code-is .0) (ap written.Length m, f ∙ ap (λ (x : List ℕ). x ++ drop (length held) d) (take-length held))

@@ -1,8 +1,8 @@
 -- Laws of the cleaning and of the doors, over plain lists. Assumes nothing.
-pub mod Same
 pub mod Blanks
-pub mod Places
+pub mod Offsets
 pub mod Runs
+pub mod Answers
 pub mod Texts
 pub mod Payloads
 pub mod Codes

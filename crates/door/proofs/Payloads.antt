@@ -1,12 +1,12 @@
--- The bytes that a typed text holds: the outcome from its tests. Assumes nothing.
+-- The bytes that a typed text holds: the answer from its tests.
 use Prim.Native.Nat.{ℕ, zero, suc, _-_, _*_, _/_, _≤_, _<_}
 use mathlib.Core.Path.{_≡_, refl, sym, _∙_, ap}
 use mathlib.Core.List.{List}
 use native.Mathlib.Omega.{arith}
 use lib.ListN.{length, take}
-use borrow.Author.Tests.{lt-ltb, le-ltb, le-leb, lt-leb}
+use borrow.Author.Tests.{lt-ltb, le-ltb, le-leb, lt-leb, leb-true}
 use Rattle.iscc.specs.Refusals.{Refusal, longText, emptyText, longRun}
-use Rattle.iscc.specs.Answer.{Answer, accept, refuse, into, areaAfter}
+use Rattle.iscc.specs.Answer.{Answer, accept, refuse, _>>_, _otherwise_, into, areaAfter}
 use Rattle.iscc.specs.Lists.{firstNot}
 use Rattle.iscc.specs.Digits.{byteCount}
 use Rattle.iscc.specs.Alphabet.{isDigit, decode}
@@ -15,16 +15,17 @@ use Rattle.iscc.specs.Doors.{cleaned, decodeRun, payload}
 use Rattle.iscc.specs.Forms.{writtenAs}
 use Rattle.iscc.specs.declared.written.Written.{Written}
 use Rattle.iscc.specs.declared.written.Written.the-variants as written
+use lib.Dec.{leb, ltb}
+use Rattle.iscc.proofs.Answer.{passed}
 use Rattle.iscc.proofs.Alphabet.{encode-decode}
 use Rattle.iscc.proofs.Base32.{sound32}
 use Rattle.iscc.proofs.Doors.{run-of}
-use Rattle.door.specs.Places.{placeOf}
+use Rattle.door.specs.Offsets.{offsetOf}
 use Rattle.door.specs.Runs.{runAs}
-use Rattle.door.specs.Payloads.{firstBad, badPlace, payloadPlace}
-use Rattle.composite.specs.Canonical.{codedAs}
+use Rattle.door.specs.Payloads.{firstBad, badOffset, payloadDetail, payloadAnswerAs}
 use Rattle.door.specs.declared.run.Run.{Run}
-use Rattle.composite.specs.declared.code.Coded.{Coded}
-use Rattle.composite.specs.declared.code.Coded.the-variants.{Length, Refused}
+use Rattle.door.specs.declared.payload.PayloadAnswer.{PayloadAnswer}
+use Rattle.door.specs.declared.payload.PayloadAnswer.the-variants.{Length, Refused}
 use Rattle.door.proofs.Runs.{padded-front, length-padded}
 
 -- ---- the first bad character
@@ -33,36 +34,25 @@ module _ (t chars : List ℕ) (b : ℕ) (of : chars ≡ cleaned t) (found : b �
   first-bad : b ≡ firstNot (isDigit base32) (cleaned t)
   first-bad = found ∙ ap (firstNot (isDigit base32)) of
 
-  pub bad-there : b < length chars → (r : ℕ) → r ≡ placeOf t b → r ≡ badPlace t
-  unfolding badPlace
+  pub bad-there : b < length chars → (r : ℕ) → r ≡ offsetOf t b → r ≡ badOffset t
+  unfolding badOffset
   bad-there l r e =
       let l′ : b < length (cleaned t) = rw of at l in
       rw (← first-bad, lt-ltb b (length (cleaned t)) l′) e
 
-  pub bad-nowhere : length chars ≤ b → 0 ≡ badPlace t
-  unfolding badPlace
+  pub bad-nowhere : length chars ≤ b → 0 ≡ badOffset t
+  unfolding badOffset
   bad-nowhere l =
       let l′ : length (cleaned t) ≤ b = rw of at l in
       rw (← first-bad, le-ltb b (length (cleaned t)) l′)
 
--- ---- an answer that fits, and how it is told
+-- ---- how an answer is told
 
-into-fits : (area : ℕ) (r : Answer (List ℕ)) → ((bs : List ℕ) → r ≡ accept bs → length bs ≤ area) → into area r ≡ r
-into-fits area (accept bs) h = rw (le-leb (length bs) area (h bs refl))
-into-fits area (refuse q) h = refl
-
--- 80 characters hold 50 bytes
-decoded-most : (cs bs : List ℕ) (area : ℕ) → length cs ≤ 80 → 50 ≤ area → decode base32 cs ≡ accept bs → length bs ≤ area
-unfolding byteCount base32
-decoded-most cs bs area l m e =
-    let n : length bs ≡ 5 * length cs / 8 = encode-decode base32 sound32 cs bs e .count in
-    omega arith
-
-as-accepted : (k : ℕ) (r : Answer (List ℕ)) (n : ℕ) → written.Length n ≡ writtenAs r → Length n ≡ codedAs k r
+as-accepted : (k : ℕ) (r : Answer (List ℕ)) (n : ℕ) → written.Length n ≡ writtenAs r → Length n ≡ payloadAnswerAs k r
 as-accepted k (accept bs) n e = let q : n ≡ length bs = cc in ap Length q
 as-accepted k (refuse p) n e = let z : _≡_ {A = ℕ} 0 1 = cc in absurd (omega arith)
 
-as-refused : (k : ℕ) (r : Answer (List ℕ)) (q : Refusal) → written.Refused q ≡ writtenAs r → Refused q k ≡ codedAs k r
+as-refused : (k : ℕ) (r : Answer (List ℕ)) (q : Refusal) → written.Refused q ≡ writtenAs r → Refused q k ≡ payloadAnswerAs k r
 as-refused k (accept bs) q e = let z : _≡_ {A = ℕ} 0 1 = cc in absurd (omega arith)
 as-refused k (refuse p) q e = let f : q ≡ p = cc in ap (λ (q : Refusal). Refused q k) f
 
@@ -72,31 +62,31 @@ ne-pos (suc n) h = omega arith
 
 -- ---- what the contract says of the answer r and the area e, once d was lent
 
-abbrev pub Outcome : List ℕ → List ℕ → Coded → List ℕ → Type 0
-Outcome t d r e = (r ≡ codedAs (payloadPlace t) (payload t)) × (e ≡ areaAfter (payload t) d)
+abbrev pub Answered : List ℕ → List ℕ → PayloadAnswer → List ℕ → Type 0
+Answered t d r e = (r ≡ payloadAnswerAs (payloadDetail t) (into (length d) (payload t))) × (e ≡ areaAfter (into (length d) (payload t)) d)
 
-refused : (t d : List ℕ) (q : Refusal) → payload t ≡ refuse q → payloadPlace t ≡ 0 → Outcome t d (Refused q 0) d
+refused : (t d : List ℕ) (q : Refusal) → payload t ≡ refuse q → payloadDetail t ≡ 0 → Answered t d (Refused q 0) d
 refused t d q e z = rw (e, z) (refl, refl)
 
 -- ---- 2, 1, 3
 
-pub payload-long : (t d : List ℕ) → 1024 < length t → Outcome t d (Refused longText 0) d
-unfolding payload payloadPlace
+pub payload-long : (t d : List ℕ) → 1024 < length t → Answered t d (Refused longText 0) d
+unfolding payload payloadDetail
 payload-long t d l = let b = lt-leb (length t) 1024 l in refused t d longText (rw b) (rw b)
 
 module _ (t : List ℕ) (r : Run) (short : length t ≤ 1024) (of : r ≡ runAs (cleaned t)) where
   counted : r .count ≡ length (cleaned t)
   counted = ap (λ (r : Run). r .count) of
 
-  pub payload-empty : (d : List ℕ) → r .count ≡ 0 → Outcome t d (Refused emptyText 0) d
-  unfolding payload decodeRun payloadPlace badPlace
+  pub payload-empty : (d : List ℕ) → r .count ≡ 0 → Answered t d (Refused emptyText 0) d
+  unfolding payload decodeRun payloadDetail badOffset
   payload-empty d e =
       let a = le-leb (length t) 1024 short in
       let n : length (cleaned t) ≡ 0 = sym counted ∙ e in
       refused t d emptyText (rw (a, n)) (rw (a, n, le-ltb (firstBad t) 0 (omega arith)))
 
-  pub payload-over : (d : List ℕ) → 80 < r .count → Outcome t d (Refused longRun 0) d
-  unfolding payload decodeRun payloadPlace
+  pub payload-over : (d : List ℕ) → 80 < r .count → Answered t d (Refused longRun 0) d
+  unfolding payload decodeRun payloadDetail
   payload-over d l =
       let a = le-leb (length t) 1024 short in
       let n = counted in
@@ -106,7 +96,7 @@ module _ (t : List ℕ) (r : Run) (short : length t ≤ 1024) (of : r ≡ runAs 
   pub chars-length : length (r .chars) ≡ 80
   chars-length = ap (λ (r : Run). length (r .chars)) of ∙ length-padded 80 (cleaned t)
 
-  -- ---- 4, 5, 6: as the base32 reader says, which has room for 50 bytes
+  -- ---- 4, 5, 6, 15: as the base32 reader says
   module _ (some : r .count ≡ 0 → ⊥) (most : r .count ≤ 80) where
     pub characters : take (r .count - 0) (r .chars) ≡ cleaned t
     characters =
@@ -121,25 +111,42 @@ module _ (t : List ℕ) (r : Run) (short : length t ≤ 1024) (of : r ≡ runAs 
         let z : 0 < length (cleaned t) = ne-pos (length (cleaned t)) (λ e. some (counted ∙ e)) in
         rw (le-leb (length t) 1024 short) (run-of base32 80 (cleaned t) z (omega arith))
 
-    pointed : payloadPlace t ≡ badPlace t
-    unfolding payloadPlace
+    pointed : payloadDetail t ≡ badOffset t
+    unfolding payloadDetail
     pointed = let n = counted in rw (le-leb (length t) 1024 short, le-leb (length (cleaned t)) 80 (omega arith))
 
-    module _ (cs : List ℕ) (area : ℕ) (passed : cs ≡ cleaned t) (room : 50 ≤ area) where
-      read-is : readBase32 cs area ≡ payload t
-      read-is =
-          let n = counted in
-          rw passed (into-fits area (decode base32 (cleaned t)) (λ bs e. decoded-most (cleaned t) bs area (omega arith) room e) ∙ sym run-decoded)
+    module _ (cs d e : List ℕ) (w : Written) (passed : cs ≡ cleaned t)
+        (answered : w ≡ writtenAs (readBase32 cs (length d))) (after : e ≡ areaAfter (readBase32 cs (length d)) d) where
+      read-is : readBase32 cs (length d) ≡ into (length d) (payload t)
+      read-is = rw passed (ap (into (length d)) (sym run-decoded))
 
-      module _ (w : Written) (d e : List ℕ) (answered : w ≡ writtenAs (readBase32 cs area)) (after : e ≡ areaAfter (readBase32 cs area) d) where
-        area-after : e ≡ areaAfter (payload t) d
-        area-after = after ∙ ap (λ (x : Answer (List ℕ)). areaAfter x d) read-is
+      area-after : e ≡ areaAfter (into (length d) (payload t)) d
+      area-after = after ∙ ap (λ (x : Answer (List ℕ)). areaAfter x d) read-is
 
-        answered-as : w ≡ writtenAs (payload t)
-        answered-as = answered ∙ ap writtenAs read-is
+      answered-as : w ≡ writtenAs (into (length d) (payload t))
+      answered-as = answered ∙ ap writtenAs read-is
 
-        pub payload-accepted : (n : ℕ) → w ≡ written.Length n → Outcome t d (Length n) e
-        payload-accepted n f = (as-accepted (payloadPlace t) (payload t) n (sym f ∙ answered-as), area-after)
+      pub payload-accepted : (n : ℕ) → w ≡ written.Length n → Answered t d (Length n) e
+      payload-accepted n f = (as-accepted (payloadDetail t) (into (length d) (payload t)) n (sym f ∙ answered-as), area-after)
 
-        pub payload-refused : (q : Refusal) (k : ℕ) → w ≡ written.Refused q → k ≡ badPlace t → Outcome t d (Refused q k) e
-        payload-refused q k f g = (rw g (ap (Refused q) (sym pointed) ∙ as-refused (payloadPlace t) (payload t) q (sym f ∙ answered-as)), area-after)
+      pub payload-refused : (q : Refusal) (k : ℕ) → w ≡ written.Refused q → k ≡ badOffset t → Answered t d (Refused q k) e
+      payload-refused q k f g = (rw g (ap (Refused q) (sym pointed) ∙ as-refused (payloadDetail t) (into (length d) (payload t)) q (sym f ∙ answered-as)), area-after)
+
+-- ---- an area of 50 bytes has room: 80 characters hold no more
+
+into-fits : (area : ℕ) (r : Answer (List ℕ)) → ((bs : List ℕ) → r ≡ accept bs → length bs ≤ area) → into area r ≡ r
+into-fits area (accept bs) h = rw (le-leb (length bs) area (h bs refl))
+into-fits area (refuse q) h = refl
+
+payload-most : (t bs : List ℕ) → payload t ≡ accept bs → length bs ≤ 50
+unfolding payload decodeRun byteCount base32
+payload-most t bs e =
+    let p = passed (leb (length t) 1024) _ (decodeRun base32 80 (cleaned t)) e in
+    let q = passed (ltb 0 (length (cleaned t))) _ (leb (length (cleaned t)) 80 otherwise longRun >> decode base32 (cleaned t)) (p .1) in
+    let r = passed (leb (length (cleaned t)) 80) _ (decode base32 (cleaned t)) (q .1) in
+    let l : length (cleaned t) ≤ 80 = leb-true (length (cleaned t)) 80 (r .0) in
+    let n : length bs ≡ 5 * length (cleaned t) / 8 = encode-decode base32 sound32 (cleaned t) bs (r .1) .count in
+    omega arith
+
+pub payload-fits : (t : List ℕ) → into 50 (payload t) ≡ payload t
+payload-fits t = into-fits 50 (payload t) (payload-most t)

@@ -45,19 +45,19 @@ padded-front n cs l = rw (take-all n cs l) (take-at cs (replicate (n - length cs
 
 -- ---- the run of the first i characters of a text
 
-pub record Kept (t chars : List ℕ) (count i : ℕ) : Type 0 where
+pub record RunUpTo (t chars : List ℕ) (count i : ℕ) : Type 0 where
   pub within : i ≤ length t
   pub fewer : count ≤ i
   pub counted : count ≡ length (dropHyphens (take i t))
   pub stored : chars ≡ padded 80 (dropHyphens (take i t))
 
-pub kept-none : (t : List ℕ) → Kept t (replicate 80 0) 0 0
+pub run-none : (t : List ℕ) → RunUpTo t (replicate 80 0) 0 0
 unfolding dropHyphens padded
-kept-none t = record { within = omega arith; fewer = omega arith; counted = refl; stored = refl }
+run-none t = record { within = omega arith; fewer = omega arith; counted = refl; stored = refl }
 
-module _ (t chars chars′ : List ℕ) (c count count′ i i′ : ℕ) (l : i < length t) (e : c ≡ getD t i 0) (next : i′ ≡ i + 1) (k : Kept t chars count i) where
-  pub kept-hyphen : c ≡ 45 → Kept t chars count i′
-  kept-hyphen q =
+module _ (t chars chars′ : List ℕ) (c count count′ i i′ : ℕ) (l : i < length t) (e : c ≡ getD t i 0) (next : i′ ≡ i + 1) (k : RunUpTo t chars count i) where
+  pub run-hyphen : c ≡ 45 → RunUpTo t chars count i′
+  run-hyphen q =
       let s : dropHyphens (take i′ t) ≡ dropHyphens (take i t) = rw (next) (dropHyphens-skip t i l (sym e ∙ q)) in
       record { within = omega arith; fewer = omega (arith, k .fewer); counted = k .counted ∙ ap length (sym s); stored = k .stored ∙ ap (padded 80) (sym s) }
 
@@ -70,22 +70,22 @@ module _ (t chars chars′ : List ℕ) (c count count′ i i′ : ℕ) (l : i < 
         let s : length (dropHyphens (take i′ t)) ≡ length (dropHyphens (take i t)) + 1 = ap length one-more ∙ length-append (dropHyphens (take i t)) (c ∷ []) in
         omega (arith, k .counted)
 
-    kept-with : chars′ ≡ padded 80 (dropHyphens (take i t) ++ (c ∷ [])) → Kept t chars′ count′ i′
-    kept-with w = record { within = omega arith; fewer = omega (arith, k .fewer); counted = one-counted; stored = w ∙ ap (padded 80) (sym one-more) }
+    run-with : chars′ ≡ padded 80 (dropHyphens (take i t) ++ (c ∷ [])) → RunUpTo t chars′ count′ i′
+    run-with w = record { within = omega arith; fewer = omega (arith, k .fewer); counted = one-counted; stored = w ∙ ap (padded 80) (sym one-more) }
 
-    pub kept-stored : count < 80 → chars′ ≡ set chars count c → Kept t chars′ count′ i′
-    kept-stored h w =
+    pub run-stored : count < 80 → chars′ ≡ set chars count c → RunUpTo t chars′ count′ i′
+    run-stored h w =
         let d : List ℕ = dropHyphens (take i t) in
         let q : count ≡ length d = k .counted in
-        kept-with (w ∙ ap (λ (a : List ℕ). set a count c) (k .stored) ∙ ap (λ (j : ℕ). set (padded 80 d) j c) q ∙ padded-store 80 d c (omega arith))
+        run-with (w ∙ ap (λ (a : List ℕ). set a count c) (k .stored) ∙ ap (λ (j : ℕ). set (padded 80 d) j c) q ∙ padded-store 80 d c (omega arith))
 
-    pub kept-counted : 80 ≤ count → chars′ ≡ chars → Kept t chars′ count′ i′
-    kept-counted h w =
+    pub run-counted : 80 ≤ count → chars′ ≡ chars → RunUpTo t chars′ count′ i′
+    run-counted h w =
         let q : count ≡ length (dropHyphens (take i t)) = k .counted in
-        kept-with (w ∙ k .stored ∙ padded-full 80 (dropHyphens (take i t)) c (omega arith))
+        run-with (w ∙ k .stored ∙ padded-full 80 (dropHyphens (take i t)) c (omega arith))
 
-pub kept-all : (t chars : List ℕ) (count i : ℕ) (r : Run) → length t ≤ i → Kept t chars count i → r ≡ record { chars = chars; count = count } → r ≡ runAs (dropHyphens t)
-kept-all t chars count i r l k e =
+pub run-all : (t chars : List ℕ) (count i : ℕ) (r : Run) → length t ≤ i → RunUpTo t chars count i → r ≡ record { chars = chars; count = count } → r ≡ runAs (dropHyphens t)
+run-all t chars count i r l k e =
     let a : take i t ≡ t = take-all i t l in
     let p : count ≡ length (dropHyphens t) = k .counted ∙ ap (λ (u : List ℕ). length (dropHyphens u)) a in
     let q : chars ≡ padded 80 (dropHyphens t) = k .stored ∙ ap (λ (u : List ℕ). padded 80 (dropHyphens u)) a in

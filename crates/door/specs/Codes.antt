@@ -5,17 +5,17 @@ use Rattle.iscc.specs.Answer.{Answer, accept, refuse}
 use Rattle.iscc.specs.Alphabet.{encode}
 use Rattle.iscc.specs.Base32.{base32}
 use Rattle.iscc.specs.Doors.{scheme, payload}
-use Rattle.composite.specs.Canonical.{placeOf}
-use Rattle.door.specs.Payloads.{payloadPlace}
+use Rattle.composite.specs.Canonical.{detailOf}
+use Rattle.door.specs.Payloads.{payloadDetail}
 
 -- the text of a code's bytes
 abbrev pub textOfCode : List ℕ → List ℕ
 textOfCode bs = scheme ++ encode base32 bs
 
--- where a refusal points: of the bytes that the text holds, or of the items that they are read as
-abbrev pub placeBehind : ℕ → Answer (List ℕ) → ℕ
-placeBehind k (accept bs) = placeOf bs
-placeBehind k (refuse q) = k
+-- what a refusal tells: of the bytes that the text holds, or of the items that they are read as
+abbrev pub detailBehind : ℕ → Answer (List ℕ) → ℕ
+detailBehind k (accept bs) = detailOf bs
+detailBehind k (refuse q) = k
 
-unfoldable pub codePlace : List ℕ → ℕ
-codePlace t = placeBehind (payloadPlace t) (payload t)
+unfoldable pub codeDetail : List ℕ → ℕ
+codeDetail t = detailBehind (payloadDetail t) (payload t)

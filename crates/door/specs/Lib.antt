@@ -1,5 +1,5 @@
 -- What the doors' inner functions answer. Assumes nothing.
-pub mod Places
+pub mod Offsets
 pub mod Runs
 pub mod Codes
 pub mod Forms

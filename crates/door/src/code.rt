@@ -1,23 +1,52 @@
 // The code that a typed text holds, as the bytes of the one unit or composite that it means.
 ghost use mathlib.Core.Path.{_≡_};
-ghost use Prim.Native.Nat.{_≤_};
 ghost use lib.ListN.{length};
 ghost use Rattle.iscc.specs.Answer.{areaAfter};
-ghost use Rattle.iscc.specs.Doors.{codeBytes};
-ghost use Rattle.door.specs.Codes.{codePlace};
-ghost use Rattle.composite.specs.Canonical.{codedAs};
+ghost use Rattle.iscc.specs.Doors.{codeBytes, readCode};
+ghost use Rattle.iscc.specs.Forms.{writtenAs, codeReadAs};
+ghost use Rattle.door.specs.Codes.{codeDetail};
 use crate::payload;
-use composite::code::Coded;
+use crate::payload::PayloadAnswer;
+use iscc::code::Code;
+use iscc::code::CodeAnswer;
+use iscc::code::CodeRead;
+use iscc::refusal::Refusal;
+use iscc::written::Written;
 
-// Writes the bytes of the code to the front of an area that has room for 42. Gives 2, 1, 3 to 14 in the order of the doors.
-pub fn read(text: &[u8], out: &mut [u8]) -> Coded
-    requires { ⌜ 42 ≤ length (now out) ⌝ }
-    ensures answer { λ r. ⌜ r ≡ codedAs (codePlace (now (text .entry))) (codeBytes (now (text .entry))) ⌝ }
-    ensures area { λ _. ⌜ now (out .exit) ≡ areaAfter (codeBytes (now (text .entry))) (now (out .entry)) ⌝ }
+// The code by value. Gives 2, 1, 3 to 14 in the order of the doors.
+pub fn read(text: &[u8]) -> CodeRead
+    ensures { λ r. ⌜ r ≡ codeReadAs (codeDetail (now (text .entry))) (codeBytes (now (text .entry))) ⌝ }
 {
     let mut bytes = [0u8; 50];
     match payload::read(text, &mut bytes) {
-        Coded::Length(n) => composite::code::canonical(&bytes[0..n], out),
-        Coded::Refused(q, place) => Coded::Refused(q, place),
+        PayloadAnswer::Length(n) => composite::code::read(&bytes[0..n]),
+        PayloadAnswer::Refused(q, detail) => CodeRead {
+            answer: CodeAnswer::Refused(q, detail),
+            code: Code {
+                bytes: [0; 42],
+                length: 0,
+            },
+        },
+    }
+}
+
+// Writes the code to the front of the area. Gives 15 where the area is below 42 bytes, whatever the text; then 2, 1, 3 to 14.
+pub fn code(text: &[u8], out: &mut [u8]) -> Written
+    ensures answer { λ r. ⌜ r ≡ writtenAs (readCode (now (text .entry)) (length (now (out .entry)))) ⌝ }
+    ensures area { λ _. ⌜ now (out .exit) ≡ areaAfter (readCode (now (text .entry)) (length (now (out .entry)))) (now (out .entry)) ⌝ }
+{
+    if out.len() < iscc::code::MOST {
+        return Written::Refused(Refusal::AREA_TOO_SHORT);
+    }
+    let found = read(text);
+    let answer = found.answer;
+    match answer {
+        CodeAnswer::Accepted => {
+            let bytes = found.code.bytes;
+            let length = found.code.length;
+            bytes::copy(&bytes[0..length], out);
+            Written::Length(length)
+        }
+        CodeAnswer::Refused(q, _) => Written::Refused(q),
     }
 }

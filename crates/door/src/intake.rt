@@ -6,24 +6,26 @@ ghost use Rattle.iscc.specs.Forms.{writtenAs};
 ghost use Rattle.iscc.specs.Doors as doors;
 use crate::code;
 use crate::text;
-use composite::code::Coded;
+use iscc::code::CodeAnswer;
 use iscc::refusal::Refusal;
 use iscc::written::Written;
-
-// The area that is wanted, whatever the text: the longest text that is written.
-pub const LONGEST: usize = 73;
 
 // Writes the text to the front of the area. Gives 15 where the area is below 73 bytes, whatever the text; then 2, 1, 3 to 14.
 pub fn intake(text: &[u8], out: &mut [u8]) -> Written
     ensures answer { λ r. ⌜ r ≡ writtenAs (doors.intake (now (text .entry)) (length (now (out .entry)))) ⌝ }
     ensures area { λ _. ⌜ now (out .exit) ≡ areaAfter (doors.intake (now (text .entry)) (length (now (out .entry)))) (now (out .entry)) ⌝ }
 {
-    if out.len() < LONGEST {
+    if out.len() < text::LONGEST_WRITTEN {
         return Written::Refused(Refusal::AREA_TOO_SHORT);
     }
-    let mut bytes = [0u8; 42];
-    match code::read(text, &mut bytes) {
-        Coded::Length(n) => Written::Length(text::write(&bytes[0..n], out)),
-        Coded::Refused(q, _) => Written::Refused(q),
+    let found = code::read(text);
+    let answer = found.answer;
+    match answer {
+        CodeAnswer::Accepted => {
+            let bytes = found.code.bytes;
+            let length = found.code.length;
+            text::write(&bytes[0..length], out)
+        }
+        CodeAnswer::Refused(q, _) => Written::Refused(q),
     }
 }

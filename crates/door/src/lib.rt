@@ -1,10 +1,10 @@
 // The text doors: typed text is cleaned, read as one code and written as its one text.
-mod code;
+pub mod code;
 pub mod intake;
 mod payload;
 mod run;
 mod scheme;
 mod span;
 pub mod strict;
-mod text;
+pub mod text;
 mod trim;

@@ -3,12 +3,12 @@ ghost use mathlib.Core.Path.{_≡_};
 ghost use Prim.Native.Nat.{_≤_};
 ghost use lib.ListN.{length};
 ghost use Rattle.iscc.specs.Doors.{dropHyphens, cleaned};
-ghost use Rattle.door.specs.Places.{placeIn, placeOf};
+ghost use Rattle.door.specs.Offsets.{offsetIn, offsetOf};
 ghost use Rattle.door.specs.Runs.{runAs};
 use crate::span;
 
 // The longest run that a code may be typed as.
-pub const MOST: usize = 80;
+pub const LONGEST_RUN: usize = 80;
 
 // How many characters are left, and the first 80 of them, filled up with zeros.
 pub struct Run {
@@ -26,7 +26,7 @@ pub fn without_hyphens(typed: &[u8]) -> Run
     while i < typed.len() {
         let c = typed[i];
         if c != b'-' {
-            if count < MOST {
+            if count < LONGEST_RUN {
                 chars[count] = c;
             }
             count += 1;
@@ -46,9 +46,9 @@ pub fn clean(text: &[u8]) -> Run
     without_hyphens(&text[from..to])
 }
 
-// The place among the characters behind the scheme of the one with this index in the run.
-pub fn place_in(typed: &[u8], index: usize) -> usize
-    ensures { λ r. ⌜ (r ≡ placeIn (now (typed .entry)) index) × (r ≤ length (now (typed .entry))) ⌝ }
+// The offset among the characters behind the scheme of the one with this index in the run.
+pub fn offset_in(typed: &[u8], index: usize) -> usize
+    ensures { λ r. ⌜ (r ≡ offsetIn (now (typed .entry)) index) × (r ≤ length (now (typed .entry))) ⌝ }
 {
     let mut left = index;
     let mut i = 0;
@@ -66,12 +66,12 @@ pub fn place_in(typed: &[u8], index: usize) -> usize
     i
 }
 
-// The byte place in a text of the character with this index in its run.
-pub fn place(text: &[u8], index: usize) -> usize
-    ensures { λ r. ⌜ (r ≡ placeOf (now (text .entry)) index) × (r ≤ length (now (text .entry))) ⌝ }
+// The offset in a text of the character with this index in its run.
+pub fn offset(text: &[u8], index: usize) -> usize
+    ensures { λ r. ⌜ (r ≡ offsetOf (now (text .entry)) index) × (r ≤ length (now (text .entry))) ⌝ }
 {
     let s = span::typed_span(text);
     let from = s.from;
     let to = s.to;
-    from + place_in(&text[from..to], index)
+    from + offset_in(&text[from..to], index)
 }

@@ -2,7 +2,7 @@
 ghost use mathlib.Core.Path.{_≡_};
 ghost use Prim.Native.Nat.{_≤_};
 ghost use lib.ListN.{length};
-ghost use Rattle.door.specs.Places.{spanOf};
+ghost use Rattle.door.specs.Offsets.{spanOf};
 use crate::scheme;
 use crate::trim;
 

@@ -1,11 +1,12 @@
 // The strict door: takes a text exactly if intake would write that same text.
 ghost use mathlib.Core.Path.{_≡_};
+ghost use Rattle.iscc.specs.Answer.{numberOf};
 ghost use Rattle.iscc.specs.Doors as doors;
-ghost use Rattle.door.specs.Forms.{checkedAs};
+ghost use Rattle.door.specs.Forms.{checkedAs, checkedNumber};
 use crate::intake;
-use crate::text;
 use iscc::refusal::Refusal;
 use iscc::written::Written;
+use octets::compare;
 
 // A text that is taken, or why it is not. Its number by document 01: `checkedNumber` of specs/Forms.antt.
 pub enum Checked {
@@ -15,12 +16,13 @@ pub enum Checked {
 
 // Gives 2, 1, 3 to 14 as intake does, then 16: the scheme and every letter are required as intake writes them.
 pub fn strict(text: &[u8]) -> Checked
-    ensures { λ r. ⌜ r ≡ checkedAs (doors.strict (now (text .entry))) ⌝ }
+    ensures answer { λ r. ⌜ r ≡ checkedAs (doors.strict (now (text .entry))) ⌝ }
+    ensures number { λ r. ⌜ checkedNumber r ≡ numberOf (doors.strict (now (text .entry))) ⌝ }
 {
     let mut own = [0u8; 73];
     match intake::intake(text, &mut own) {
         Written::Length(n) => {
-            if text::same(&own[0..n], text) {
+            if compare::same(&own[0..n], text) {
                 return Checked::Accepted;
             }
             Checked::Refused(Refusal::OTHER_TEXT)

@@ -1,35 +1,22 @@
-// Texts as byte strings: compared, and begun with the scheme.
+// The one text of a code, written.
 ghost use mathlib.Core.Path.{_≡_};
 ghost use mathlib.Core.List.{_++_};
 ghost use Prim.Native.Nat.{_≤_};
 ghost use lib.ListN.{length, drop};
-ghost use Rattle.iscc.specs.Answer.{accept, areaAfter};
-ghost use Rattle.iscc.specs.Doors.{sameText, scheme};
+ghost use Rattle.iscc.specs.Answer.{accept, areaAfter, into};
+ghost use Rattle.iscc.specs.Doors.{scheme, writeText};
+ghost use Rattle.iscc.specs.Forms.{writtenAs};
 ghost use Rattle.door.specs.Codes.{textOfCode};
 use crate::scheme::SCHEME;
+use iscc::refusal::Refusal;
 use iscc::written::Written;
+use unit::reader::UnitRead;
 
-// Whether two texts are the same, byte for byte. It tests the largest difference alone, so that the loop has no branch.
-pub fn same(a: &[u8], b: &[u8]) -> bool
-    ensures { λ r. ⌜ r ≡ sameText (now (a .entry)) (now (b .entry)) ⌝ }
-{
-    if a.len() != b.len() {
-        return false;
-    }
-    let mut most = 0;
-    let mut i = 0;
-    while i < a.len() {
-        let bits = a[i] ^ b[i];
-        if most < bits {
-            most = bits;
-        }
-        i += 1;
-    }
-    most == 0
-}
+// The longest text that is written, in bytes: the scheme and the 68 characters of the longest code.
+pub const LONGEST_WRITTEN: usize = 73;
 
 // Writes the scheme to the front of an area that has room for it.
-pub fn put_scheme(out: &mut [u8])
+fn put_scheme(out: &mut [u8])
     requires { ⌜ 5 ≤ length (now out) ⌝ }
     ensures { λ _. ⌜ now (out .exit) ≡ scheme ++ drop 5 (now (out .entry)) ⌝ }
 {
@@ -40,15 +27,34 @@ pub fn put_scheme(out: &mut [u8])
     }
 }
 
-// Writes the text of a code, the scheme and then capital base32, to the front of an area that has room for it.
-pub fn write(code: &[u8], out: &mut [u8]) -> usize
-    requires { ⌜ (length (now code) ≤ 42) × (73 ≤ length (now out)) ⌝ }
-    ensures answer { λ r. ⌜ r ≡ length (textOfCode (now (code .entry))) ⌝ }
-    ensures area { λ _. ⌜ now (out .exit) ≡ areaAfter (accept (textOfCode (now (code .entry)))) (now (out .entry)) ⌝ }
+// Writes the scheme and then capital base32 of the bytes to the front of the area, or 15 where they do not fit.
+pub(crate) fn write(bytes: &[u8], out: &mut [u8]) -> Written
+    ensures answer { λ r. ⌜ r ≡ writtenAs (into (length (now (out .entry))) (accept (textOfCode (now (bytes .entry))))) ⌝ }
+    ensures area { λ _. ⌜ now (out .exit) ≡ areaAfter (into (length (now (out .entry))) (accept (textOfCode (now (bytes .entry))))) (now (out .entry)) ⌝ }
 {
-    put_scheme(out);
-    match base32::writer::write(code, &mut out[5..]) {
-        Written::Length(n) => 5 + n,
-        Written::Refused(_) => 5,
+    if out.len() < 5 {
+        return Written::Refused(Refusal::AREA_TOO_SHORT);
+    }
+    match base32::writer::write(bytes, &mut out[5..]) {
+        Written::Length(n) => {
+            put_scheme(out);
+            Written::Length(5 + n)
+        }
+        Written::Refused(q) => Written::Refused(q),
+    }
+}
+
+// Writes the text of a code's bytes to the front of the area. Gives 15 where the area is below 73 bytes, whatever the bytes;
+// then 7, 8, 9, 19 of these.
+pub fn text(code: &[u8], out: &mut [u8]) -> Written
+    ensures answer { λ r. ⌜ r ≡ writtenAs (writeText (now (code .entry)) (length (now (out .entry)))) ⌝ }
+    ensures area { λ _. ⌜ now (out .exit) ≡ areaAfter (writeText (now (code .entry)) (length (now (out .entry)))) (now (out .entry)) ⌝ }
+{
+    if out.len() < LONGEST_WRITTEN {
+        return Written::Refused(Refusal::AREA_TOO_SHORT);
+    }
+    match unit::one::read(code) {
+        UnitRead::Unit(_) => write(code, out),
+        UnitRead::Refused(q) => Written::Refused(q),
     }
 }

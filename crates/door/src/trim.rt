@@ -3,7 +3,7 @@ ghost use mathlib.Core.Path.{_≡_};
 ghost use Prim.Native.Nat.{_≤_};
 ghost use lib.ListN.{length};
 ghost use Rattle.iscc.specs.Doors.{isBlank, trimEnd};
-ghost use Rattle.door.specs.Places.{blanksIn};
+ghost use Rattle.door.specs.Offsets.{blanksIn};
 
 // Space, tab, CR and LF.
 pub fn is_blank(c: u8) -> bool

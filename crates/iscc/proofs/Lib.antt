@@ -38,5 +38,6 @@ pub mod Values
 pub mod FirstNot
 pub mod Lent
 pub mod Codes
+pub mod Numbers
 pub mod Groups
 pub mod Decoding

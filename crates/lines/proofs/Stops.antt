@@ -153,10 +153,10 @@ unfolding roomFor
 keeps-on p line after piece held at room f h k e z =
     let r : f ≡ feeding room (begunLine line held) (drop at piece) = e ∙ rw (le-leb 1024 (length line) h) in
     let b : f .begun ≡ begunAfter (begunLine line held) (take (f .used) (drop at piece)) =
-        rw r (far room (begunLine line held) (drop at piece) .begun) in
+    rw r (far room (begunLine line held) (drop at piece) .begun) in
     let s : begunLine after (heldFor (f .begun)) ≡ shortened (f .begun) = ap (λ (l : List ℕ). begunLine l (heldFor (f .begun))) z ∙ begun-kept (f .begun) line in
     let t : begunAfter p (take (at + f .used) piece) ≡ begunAfter (begunAfter p (take at piece)) (take (f .used) (drop at piece)) =
-        ap (begunAfter p) (take-add at (f .used) piece) ∙ after-append p (take at piece) (take (f .used) (drop at piece)) in
+    ap (begunAfter p) (take-add at (f .used) piece) ∙ after-append p (take at piece) (take (f .used) (drop at piece)) in
     ap shortened s ∙ shortened-twice (f .begun) ∙ ap shortened b
     ∙ after-alike (begunLine line held) (begunAfter p (take at piece)) (take (f .used) (drop at piece)) k ∙ ap shortened (sym t)
 

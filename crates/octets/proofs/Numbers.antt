@@ -46,7 +46,7 @@ one-filled {number} {d} {part} {rest} {i} b f h e =
     let l : length (take (i - 1) d) ≡ i - 1 = length-take-le (i - 1) d (omega (arith, f .within)) in
     let t : take i d ≡ take (i - 1) d ++ (getD d (i - 1) 0 ∷ []) = ap (λ (x : ℕ). take x d) j ∙ take-suc d (i - 1) 0 (omega (arith, f .within)) in
     let q : part ≡ take (i - 1) d ++ (getD d (i - 1) 0 ∷ digits 8 k number) =
-        f .is ∙ rw t (append-assoc (take (i - 1) d) (getD d (i - 1) 0 ∷ []) (digits 8 k number)) in
+    f .is ∙ rw t (append-assoc (take (i - 1) d) (getD d (i - 1) 0 ∷ []) (digits 8 k number)) in
     record {
       within = omega (arith, f .within);
       is =

@@ -1,5 +1,4 @@
 // C entries of the public calls that the console does not use: for outside tests and benchmarks only.
-pub mod composites;
 pub mod headers;
 pub mod texts;
 pub mod units;

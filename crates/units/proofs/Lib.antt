@@ -3,4 +3,5 @@ pub mod Tests
 pub mod Snoc
 pub mod Added
 pub mod Decided
+pub mod Leading
 pub mod Reached

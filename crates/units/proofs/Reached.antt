@@ -2,9 +2,9 @@
 use Prim.Native.Nat.{ℕ, zero, suc, _+_, _-_, _≤_, _<_}
 use mathlib.Core.Path.{_≡_, refl, sym, _∙_, ap, subst, subst⁻¹}
 use mathlib.Core.Bool.{false}
-use mathlib.Core.List.{List, [], _∷_, _++_, append-assoc}
+use mathlib.Core.List.{List, [], _∷_, _++_, append-assoc, append-nil}
 use native.Mathlib.Omega.{arith}
-use lib.ListN.{length, take, drop, length-append, length-drop}
+use lib.ListN.{length, take, drop, length-drop}
 use lib.Seq.{drop-drop}
 use lib.Dec.{leb}
 use borrow.Author.Tests.{le-leb, lt-leb}
@@ -14,7 +14,6 @@ use Rattle.iscc.specs.Varnibble.{Parsed}
 use Rattle.iscc.specs.Permitted.{number}
 use Rattle.iscc.specs.Item.{Item, readItem}
 use Rattle.iscc.specs.Items.{readUpTo, readItems}
-use Rattle.iscc.proofs.Answer.{accept-inj}
 use Rattle.iscc.proofs.Permitted.{number-small}
 use Rattle.iscc.proofs.Parts.{rest-is}
 use Rattle.units.specs.declared.summary.Summary.{Summary}
@@ -25,9 +24,10 @@ use Rattle.unit.specs.declared.reader.UnitRead.{UnitRead}
 use Rattle.unit.specs.declared.reader.UnitRead.the-variants as found
 use Rattle.unit.specs.Forms.{unitAs, unitReadAs}
 use Rattle.unit.proofs.Bounds.{ItemBounds, item-bounds}
-use Rattle.units.specs.Summary.{Summarizes, none, added}
-use Rattle.units.specs.Reading.{refusedUpTo, refusedIndex, readingAs}
-use Rattle.units.proofs.Added.{added-is, none-is}
+use Rattle.units.specs.Summary.{Summarizes, emptySummary, added}
+use Rattle.units.specs.Reading.{leadingUpTo, leadingItems, refusedIndex, readingAs}
+use Rattle.units.proofs.Added.{added-is, empty-is}
+use Rattle.units.proofs.Leading.{none-left}
 
 -- ---- the items so far
 
@@ -35,51 +35,56 @@ pub record Reached (bs : List ℕ) (is : List Item) (at : ℕ) : Type 0 where
   pub fuel : ℕ
   pub enough : length bs < fuel + at
   pub items : readItems bs ≡ (readUpTo fuel (drop at bs) >>= λ js. accept (is ++ js))
-  pub index : refusedIndex bs ≡ length is + refusedUpTo fuel (drop at bs)
+  pub leading : leadingItems bs ≡ is ++ leadingUpTo fuel (drop at bs)
 
 accept-all : (a : Answer (List Item)) → a ≡ (a >>= λ js. accept js)
 accept-all (accept js) = refl
 accept-all (refuse q) = refl
 
 pub nothing-read : (bs : List ℕ) → Reached bs [] 0
-unfolding readItems refusedIndex
+unfolding readItems leadingItems
 nothing-read bs =
     record {
       fuel = suc (length bs);
       enough = omega arith;
       items = accept-all (readUpTo (suc (length bs)) bs);
-      index = omega arith;
+      leading = refl;
     }
 
 module _ (bs : List ℕ) (is : List Item) (at : ℕ) where
   abbrev Items : ℕ → Type 0
   Items n = readItems bs ≡ (readUpTo n (drop at bs) >>= λ js. accept (is ++ js))
 
-  abbrev Index : ℕ → Type 0
-  Index n = refusedIndex bs ≡ length is + refusedUpTo n (drop at bs)
+  abbrev Leading : ℕ → Type 0
+  Leading n = leadingItems bs ≡ is ++ leadingUpTo n (drop at bs)
 
   -- the next item is refused
-  refused-here : (q : Refusal) → readItem (drop at bs) ≡ refuse q → (n : ℕ) → length bs < n + at → at ≤ length bs → Items n → Index n
-      → (readItems bs ≡ refuse q) × (refusedIndex bs ≡ length is)
-  unfolding readUpTo refusedUpTo
+  refused-here : (q : Refusal) → readItem (drop at bs) ≡ refuse q → (n : ℕ) → length bs < n + at → at ≤ length bs → Items n → Leading n
+      → (readItems bs ≡ refuse q) × (leadingItems bs ≡ is)
+  unfolding readUpTo leadingUpTo
   refused-here q e zero l w i x = absurd (omega arith)
-  refused-here q e (suc n) l w i x = (i ∙ rw e, x ∙ rw e (omega arith))
+  refused-here q e (suc n) l w i x = (i ∙ rw e, x ∙ rw e (append-nil is))
 
   module _ (g : Parsed Item) (e : readItem (drop at bs) ≡ accept g) where
     -- it is the last one
-    last-here : length bs ≤ at + g .used → (n : ℕ) → length bs < n + at → at ≤ length bs → Items n → readItems bs ≡ accept (is ++ (g .result ∷ []))
-    unfolding readUpTo
-    last-here f zero l w i = absurd (omega arith)
-    last-here f (suc n) l w i = i ∙ rw (e, le-leb (length (drop at bs)) (g .used) (omega (arith, length-drop at bs)))
+    last-here : length bs ≤ at + g .used → (n : ℕ) → length bs < n + at → at ≤ length bs → Items n → Leading n
+        → (readItems bs ≡ accept (is ++ (g .result ∷ []))) × (leadingItems bs ≡ is ++ (g .result ∷ []))
+    unfolding readUpTo leadingUpTo
+    last-here f zero l w i x = absurd (omega arith)
+    last-here f (suc n) l w i x =
+        let z : length (drop (g .used) (drop at bs)) ≡ 0 = omega (arith, length-drop (g .used) (drop at bs), length-drop at bs) in (
+          i ∙ rw (e, le-leb (length (drop at bs)) (g .used) (omega (arith, length-drop at bs))),
+          x ∙ rw (e, none-left n (drop (g .used) (drop at bs)) z),
+        )
 
     regroup : (a : Answer (List Item)) → ((a >>= λ js. accept (g .result ∷ js)) >>= λ js. accept (is ++ js)) ≡ (a >>= λ js. accept ((is ++ (g .result ∷ [])) ++ js))
     regroup (accept js) = ap accept (sym (append-assoc is (g .result ∷ []) js))
     regroup (refuse q) = refl
 
     -- more bytes follow
-    more-here : at + g .used < length bs → 1 ≤ g .used → (n : ℕ) → length bs < n + at → at ≤ length bs → Items n → Index n
+    more-here : at + g .used < length bs → 1 ≤ g .used → (n : ℕ) → length bs < n + at → at ≤ length bs → Items n → Leading n
         → Reached bs (is ++ (g .result ∷ [])) (at + g .used)
-    unfolding readUpTo refusedUpTo
+    unfolding readUpTo leadingUpTo
     more-here f u zero l w i x = absurd (omega arith)
     more-here f u (suc n) l w i x =
         let d : drop (g .used) (drop at bs) ≡ drop (at + g .used) bs = drop-drop (g .used) at bs in
@@ -88,14 +93,14 @@ module _ (bs : List ℕ) (is : List Item) (at : ℕ) where
           fuel = n;
           enough = omega arith;
           items = i ∙ rw (e, c, d) (regroup (readUpTo n (drop (at + g .used) bs)));
-          index = x ∙ rw (e, d) (simp length-append (omega arith));
+          leading = x ∙ rw (e, d) (sym (append-assoc is (g .result ∷ []) (leadingUpTo n (drop (at + g .used) bs))));
         }
 
 -- ---- one turn of the reader, and its summary
 
 module _ (bs : List ℕ) (is : List Item) (at : ℕ) (l : Summary) (r : Reached bs is at) (s : Summarizes bs is l) (w : at ≤ length bs) where
-  pub turn-refused : (q : Refusal) → readItem (drop at bs) ≡ refuse q → (readItems bs ≡ refuse q) × (refusedIndex bs ≡ length is)
-  turn-refused q e = refused-here bs is at q e (r .fuel) (r .enough) w (r .items) (r .index)
+  pub turn-refused : (q : Refusal) → readItem (drop at bs) ≡ refuse q → (readItems bs ≡ refuse q) × (leadingItems bs ≡ is)
+  turn-refused q e = refused-here bs is at q e (r .fuel) (r .enough) w (r .items) (r .leading)
 
   module _ (g : Parsed Item) (e : readItem (drop at bs) ≡ accept g) where
     abbrev it : ItemBounds (drop at bs) g
@@ -106,11 +111,11 @@ module _ (bs : List ℕ) (is : List Item) (at : ℕ) (l : Summary) (r : Reached 
         added-is bs is l s (g .result) (at + 2)
         (omega arith, omega (arith, it .front, it .within, length-drop at bs), ap (take (length (g .result .body))) (sym (drop-drop 2 at bs)) ∙ sym (it .body))
 
-    pub turn-last : length bs ≤ at + g .used → readItems bs ≡ accept (is ++ (g .result ∷ []))
-    turn-last f = last-here bs is at g e f (r .fuel) (r .enough) w (r .items)
+    pub turn-last : length bs ≤ at + g .used → (readItems bs ≡ accept (is ++ (g .result ∷ []))) × (leadingItems bs ≡ is ++ (g .result ∷ []))
+    turn-last f = last-here bs is at g e f (r .fuel) (r .enough) w (r .items) (r .leading)
 
     pub turn-more : at + g .used < length bs → Reached bs (is ++ (g .result ∷ [])) (at + g .used)
-    turn-more f = more-here bs is at g e f (omega (arith, it .front)) (r .fuel) (r .enough) w (r .items) (r .index)
+    turn-more f = more-here bs is at g e f (omega (arith, it .front)) (r .fuel) (r .enough) w (r .items) (r .leading)
 
 -- ---- the reader's loop
 
@@ -121,14 +126,14 @@ pub record Running (bs : List ℕ) (l : Summary) (at : ℕ) : Type 0 where
   pub count : l .count ≤ at
   pub within : at ≤ length bs
 
-pub starts : (bs : List ℕ) (l : Summary) → l ≡ none → Running bs l 0
+pub starts : (bs : List ℕ) (l : Summary) → l ≡ emptySummary → Running bs l 0
 starts bs l e =
     subst⁻¹ (λ (k : Summary). Running bs k 0) e
-    (record { items = []; reached = nothing-read bs; summary = none-is bs; count = omega arith; within = omega arith })
+    (record { items = []; reached = nothing-read bs; summary = empty-is bs; count = omega arith; within = omega arith })
 
 -- what the reader answers
 abbrev pub Ends : List ℕ → Reading → Summary → Type 0
-Ends bs a l = (a ≡ readingAs (refusedIndex bs) (readItems bs)) × ((is : List Item) → readItems bs ≡ accept is → Summarizes bs is l)
+Ends bs a l = (a ≡ readingAs (refusedIndex bs) (readItems bs)) × Summarizes bs (leadingItems bs) l
 
 -- what `unit::reader::read` found
 unit-found : (a : Answer (Parsed Item)) {f : UnitRead} (u : Unit) → f ≡ unitReadAs a → f ≡ found.Unit u → (g : Parsed Item) × (a ≡ accept g) × (unitAs g ≡ u)
@@ -149,10 +154,11 @@ pub record Turn (bs : List ℕ) (l : Summary) (at : ℕ) (u : Unit) : Type 0 whe
 
 module _ (bs : List ℕ) (l : Summary) (at : ℕ) (w : Running bs l at) {f : UnitRead} (ef : f ≡ unitReadAs (readItem (take (length bs - at) (drop at bs)))) where
   pub refuses : (q : Refusal) → f ≡ found.Refused q → Ends bs (Reading.Refused q (l .count)) l
+  unfolding refusedIndex
   refuses q e =
       let r : readItem (drop at bs) ≡ refuse q = ap readItem (sym (rest-is bs at)) ∙ none-found (readItem (take (length bs - at) (drop at bs))) q ef e in
       let t = turn-refused bs (w .items) at l (w .reached) (w .summary) (w .within) q r in
-      (rw (t .0, t .1, w .summary .count), λ is z. let n : _≡_ {A = ℕ} 0 1 = let y = t .0 in cc in absurd (omega arith))
+      (rw (t .0, t .1, w .summary .count), subst⁻¹ (λ (x : List Item). Summarizes bs x l) (t .1) (w .summary))
 
   module _ (g : Parsed Item) (e : readItem (drop at bs) ≡ accept g) where
     abbrev nextList : Summary
@@ -190,8 +196,8 @@ module _ (bs : List ℕ) (l : Summary) (at : ℕ) (w : Running bs l at) {f : Uni
                 within = omega arith;
               });
           ends =
-              λ j z h. let r : readItems bs ≡ accept items = turn-last bs (w .items) at l (w .reached) (w .summary) (w .within) g e h in
-              (rw r, λ is y. subst (λ (x : List Item). Summarizes bs x j) (accept-inj (sym r ∙ y)) (subst⁻¹ (λ (x : Summary). Summarizes bs items x) (z ∙ same-list) s));
+              λ j z h. let r = turn-last bs (w .items) at l (w .reached) (w .summary) (w .within) g e h in
+              (rw (r .0), subst⁻¹ (λ (x : List Item). Summarizes bs x j) (r .1) (subst⁻¹ (λ (x : Summary). Summarizes bs items x) (z ∙ same-list) s));
         }
 
   pub turn : (u : Unit) → f ≡ found.Unit u → Turn bs l at u

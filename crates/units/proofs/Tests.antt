@@ -1,10 +1,13 @@
 -- What closes a return against a definition that goes by tests: each test follows from a fact on the way there. Assumes nothing.
-use Prim.Native.Nat.{ℕ, _+_}
-use mathlib.Core.Path.{_≡_, refl}
+use Prim.Native.Nat.{ℕ, _+_, _≤_}
+use mathlib.Core.Path.{_≡_, refl, sym, _∙_, ap}
 use mathlib.Core.Bool.{Bool, true, false, cond, not, _&&_, _||_}
+use mathlib.Core.List.{List}
+use lib.ListN.{length, getD, set, List·getD-eq-default}
 use lib.Dec.{eqb}
 use borrow.Author.Tests.{lt-ltb, le-ltb, le-leb, lt-leb, eq-eqb, ne-eqb}
-use Rattle.units.specs.Summary.{advanced}
+use Rattle.iscc.specs.Permitted.{SEMANTIC, CONTENT, number}
+use Rattle.units.specs.Summary.{advanced, anySubtyped, withOffset}
 
 pub ruleset tests = (lt-ltb, le-ltb, le-leb, lt-leb, eq-eqb, ne-eqb)
 
@@ -47,3 +50,28 @@ module _ {A : Type 0} (a b r s : Bool) (x y z : A) where
 
   pub cond-none : r ≡ a → r ≡ false → z ≡ cond a (cond b x y) z
   cond-none e t = rw (← e, t)
+
+-- ---- by a main type's number m, which a call gave as r
+
+module _ (offsets : List ℕ) (m r : ℕ) (e : r ≡ m) where
+  pub offset-there : getD offsets r 0 ≡ getD offsets m 0
+  offset-there = ap (λ (k : ℕ). getD offsets k 0) e
+
+  pub offset-past : length offsets ≤ r → 0 ≡ getD offsets m 0
+  offset-past h = sym (List·getD-eq-default offsets 0 h) ∙ offset-there
+
+  module _ (at : ℕ) where
+    pub first-offset : getD offsets r 0 ≡ 0 → set offsets r at ≡ withOffset offsets m at
+    unfolding withOffset
+    first-offset z = rw (← e, eq-eqb (getD offsets r 0) 0 z)
+
+    pub later-offset : (getD offsets r 0 ≡ 0 → ⊥) → offsets ≡ withOffset offsets m at
+    unfolding withOffset
+    later-offset z = rw (← e, ne-eqb (getD offsets r 0) 0 z)
+
+module _ (offsets : List ℕ) (a b : ℕ) (e : a ≡ getD offsets (number SEMANTIC) 0) where
+  pub any-first : (a ≡ 0 → ⊥) → true ≡ anySubtyped offsets
+  any-first n = rw (← e, ne-eqb a 0 n)
+
+  pub any-second : a ≡ 0 → b ≡ getD offsets (number CONTENT) 0 → not (eqb b 0) ≡ anySubtyped offsets
+  any-second z f = rw (← e, eq-eqb a 0 z, f)

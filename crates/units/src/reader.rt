@@ -1,11 +1,8 @@
 // Reads units laid end to end from the left until no byte remains.
 ghost use mathlib.Core.Path.{_≡_};
-ghost use mathlib.Core.List.{List};
-ghost use Rattle.iscc.specs.Answer.{accept};
-ghost use Rattle.iscc.specs.Item.{Item};
 ghost use Rattle.iscc.specs.Items.{readItems};
 ghost use Rattle.units.specs.Summary.{Summarizes};
-ghost use Rattle.units.specs.Reading.{refusedIndex, readingAs};
+ghost use Rattle.units.specs.Reading.{leadingItems, refusedIndex, readingAs};
 use crate::summary;
 use crate::summary::Summary;
 use iscc::refusal::Refusal;
@@ -26,7 +23,7 @@ pub struct ListRead {
 // 7, 8, 9 for each item, all of one item before the next. No bytes are 7.
 pub fn read(bytes: &[u8]) -> ListRead
     ensures answer { λ r. ⌜ r .answer ≡ readingAs (refusedIndex (now (bytes .entry))) (readItems (now (bytes .entry))) ⌝ }
-    ensures list { λ r. ⌜ ((is : List Item) → readItems (now (bytes .entry)) ≡ accept is → Summarizes (now (bytes .entry)) is (r .list)) ⌝ }
+    ensures list { λ r. ⌜ Summarizes (now (bytes .entry)) (leadingItems (now (bytes .entry))) (r .list) ⌝ }
 {
     let mut list = summary::empty();
     let mut at: usize = 0;
@@ -40,8 +37,8 @@ pub fn read(bytes: &[u8]) -> ListRead
                 };
             }
             UnitRead::Unit(u) => {
-                let place = at + u.start;
-                let after = summary::add(list, u.main_type, u.subtype, u.used - u.start, place);
+                let offset = at + u.start;
+                let after = summary::add(list, u.main_type, u.subtype, u.used - u.start, offset);
                 list = after;
                 at += u.used;
             }

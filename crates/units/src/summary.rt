@@ -1,10 +1,9 @@
 // What one pass over a list keeps of the items read so far. No body is copied.
 ghost use mathlib.Core.Path.{_≡_};
-ghost use mathlib.Core.Bool.{cond, _&&_, _||_, not};
+ghost use mathlib.Core.Bool.{cond};
 ghost use Prim.Native.Nat.{_+_, _<_};
-ghost use lib.ListN.{length, getD, set};
-ghost use lib.Dec.{eqb};
-ghost use Rattle.units.specs.Summary.{none, advanced, isSubtyped, anySubtyped, shares, placed, added};
+ghost use lib.ListN.{getD};
+ghost use Rattle.units.specs.Summary.{emptySummary, advanced, isJoinable, isSubtyped, anySubtyped, shares, withOffset, added};
 use iscc::main_type::MainType;
 
 // An index is that of the first item that breaks a rule of the list, and the count of items where none does.
@@ -21,12 +20,12 @@ pub struct Summary {
     // of the first SEMANTIC or CONTENT unit
     pub subtype: u32,
     // by main type: where the body of the first such item stands in the input, 0 if there is none
-    pub places: [usize; 7],
+    pub offsets: [usize; 7],
 }
 
 // Of no items.
 pub(crate) fn empty() -> Summary
-    ensures { λ r. ⌜ r ≡ none ⌝ }
+    ensures { λ r. ⌜ r ≡ emptySummary ⌝ }
 {
     Summary {
         count: 0,
@@ -35,7 +34,7 @@ pub(crate) fn empty() -> Summary
         repeated: 0,
         clash: 0,
         subtype: 0,
-        places: [0; 7],
+        offsets: [0; 7],
     }
 }
 
@@ -53,7 +52,7 @@ fn advance(first: usize, count: usize, holds: bool) -> usize
 }
 
 fn is_joinable(main_type: MainType) -> bool
-    ensures { λ r. ⌜ r ≡ not (eqb («main_type» .number) 5 || eqb («main_type» .number) 6) ⌝ }
+    ensures { λ r. ⌜ r ≡ isJoinable («main_type» .number) ⌝ }
 {
     if main_type.is(MainType::ISCC) {
         return false;
@@ -71,14 +70,26 @@ fn is_subtyped(main_type: MainType) -> bool
     main_type.is(MainType::CONTENT)
 }
 
+// Of a main type: where the body of its first item stands in the input, 0 if there is none.
+pub fn offset_of(offsets: [usize; 7], main_type: MainType) -> usize
+    ensures { λ r. ⌜ r ≡ getD offsets («main_type» .number) 0 ⌝ }
+{
+    let number = main_type.number() as usize;
+    if number < 7 {
+        return offsets[number];
+    }
+    0
+}
+
 // Whether the list has a SEMANTIC or a CONTENT unit.
 pub fn any_subtyped(list: Summary) -> bool
-    ensures { λ r. ⌜ r ≡ anySubtyped (list .places) ⌝ }
+    ensures { λ r. ⌜ r ≡ anySubtyped (list .offsets) ⌝ }
 {
-    if list.places[1] != 0 {
+    let offsets = list.offsets;
+    if offset_of(offsets, MainType::SEMANTIC) != 0 {
         return true;
     }
-    list.places[2] != 0
+    offset_of(offsets, MainType::CONTENT) != 0
 }
 
 // Whether a unit has the subtype of the SEMANTIC and CONTENT units so far, if it is one.
@@ -95,7 +106,7 @@ fn is_shared(list: Summary, main_type: MainType, subtype: u32) -> bool
 
 // The subtype of the first SEMANTIC or CONTENT unit, one item later.
 fn subtype_after(list: Summary, main_type: MainType, subtype: u32) -> u32
-    ensures { λ r. ⌜ r ≡ cond (isSubtyped («main_type» .number)) (cond (anySubtyped (list .places)) (list .subtype) subtype) (list .subtype) ⌝ }
+    ensures { λ r. ⌜ r ≡ cond (isSubtyped («main_type» .number)) (cond (anySubtyped (list .offsets)) (list .subtype) subtype) (list .subtype) ⌝ }
 {
     if is_subtyped(main_type) {
         if any_subtyped(list) {
@@ -106,38 +117,40 @@ fn subtype_after(list: Summary, main_type: MainType, subtype: u32) -> u32
     list.subtype
 }
 
-fn place(places: [usize; 7], number: usize, at: usize) -> [usize; 7]
-    requires { ⌜ number < 7 ⌝ }
-    ensures { λ r. ⌜ r ≡ placed places number at ⌝ }
+// The offset of a main type's body, unless an item before has it.
+fn with_offset(offsets: [usize; 7], main_type: MainType, offset: usize) -> [usize; 7]
+    requires { ⌜ «main_type» .number < 7 ⌝ }
+    ensures { λ r. ⌜ r ≡ withOffset offsets («main_type» .number) offset ⌝ }
 {
-    let mut after = places;
+    let number = main_type.number() as usize;
+    let mut after = offsets;
     if after[number] == 0 {
-        after[number] = at;
+        after[number] = offset;
     }
     after
 }
 
-// One item later: an item of this main type and subtype, whose body is of `size` bytes and stands at `at` in the input.
+// One item later: an item of this main type and subtype, whose body is of `size` bytes and stands at `offset` in the input.
 pub(crate) fn add(
     list: Summary,
     main_type: MainType,
     subtype: u32,
     size: usize,
-    at: usize,
+    offset: usize,
 ) -> Summary
     requires { ⌜ («main_type» .number < 7) × (list .count < 18446744073709551615) ⌝ }
-    ensures { λ r. ⌜ r ≡ added list («main_type» .number) subtype size at ⌝ }
+    ensures { λ r. ⌜ r ≡ added list («main_type» .number) subtype size offset ⌝ }
 {
     let number = main_type.number() as usize;
     let count = list.count;
-    let places = list.places;
+    let offsets = list.offsets;
     Summary {
         count: count + 1,
         not_joinable: advance(list.not_joinable, count, is_joinable(main_type)),
         not_64_bits: advance(list.not_64_bits, count, size == 8),
-        repeated: advance(list.repeated, count, places[number] == 0),
+        repeated: advance(list.repeated, count, offsets[number] == 0),
         clash: advance(list.clash, count, is_shared(list, main_type, subtype)),
         subtype: subtype_after(list, main_type, subtype),
-        places: place(places, number, at),
+        offsets: with_offset(offsets, main_type, offset),
     }
 }

@@ -57,8 +57,7 @@ loop-less c = omega (arith, taken (c .before .before .before .before .before .be
 loop-again : tie.Need-loop-again Inv-loop μ-loop
 loop-again c =
     let f = c .before .before .before .before .before .before .before .before .before in
-    let v = At f .loop .inv in
-    (
+    let v = At f .loop .inv in (
       taken f,
       v .1,
       at-feed f .same-line ∙ v .2,

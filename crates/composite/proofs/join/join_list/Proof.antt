@@ -1,39 +1,43 @@
--- `join_list` meets its contract. Assumes nothing.
+-- `join_list` meets its contract: a refusal, 15, or the code copied to the area.
 use mathlib.Core.Path.{refl}
 use native.Mathlib.Omega.{arith}
-use Rattle.iscc.proofs.Digits.{below-all}
-use Rattle.iscc.proofs.Lent.{refused, answers-same}
-use Rattle.composite.proofs.Joins.{verdict-refuses, verdict-makes}
+use Rattle.iscc.proofs.Lent.{refused}
+use Rattle.composite.specs.Joined.{composedBytes}
+use Rattle.composite.specs.Canonical.{detailOf}
+use Rattle.composite.proofs.CodeValue.{told-refused, code-within, copy-short, copy-done}
 use borrow.Author.Needs.{needs}
 use Rattle.composite.proofs.join.join_list.Statement.{statement}
 use Rattle.composite.proofs.join.join_list.Tie as tie
 
-enum-told : tie.Need-enum-told
-enum-told c = search needs
-
-write-list-requires : tie.Need-write-list-requires
-write-list-requires c κs =
-    let d = c .before .before .before in
-    let b = d .before .before in
-    let s = b .before in
-    let k = verdict-makes _ _ (s .pre) (d .decide .ensures) (below-all 256 (s .args .bytes .now) (λ i h. omega (arith, b .shared-slice-known .given i))) (c .before .enum-told .given .1) in
-    (k .0, k .1)
-
 returns : tie.Need-returns
 returns c =
-    let d = c .before .before .before in
-    let s = d .before .before .before in
-    refused (s .args .out .now) (verdict-refuses _ _ (s .pre) (d .decide .ensures) _ _ (c .before .verdict .given .1) .0) refl
+    let t = c .before in
+    let o = t .before .before .before in
+    let s = o .before .before .before in
+    copy-short (detailOf (s .args .bytes .now)) (composedBytes (s .args .bytes .now)) _ (o .of-list .ensures) (t .enum-told .given .1) (s .args .out .now) (c .if1 .taken)
+
+part-copy-end : tie.Need-part-copy-end
+part-copy-end c =
+    let t = c .before .before .before in
+    let o = t .before .before .before in
+    let s = o .before .before .before in
+    omega (arith, code-within (detailOf (s .args .bytes .now)) (composedBytes (s .args .bytes .now)) _ (o .of-list .ensures) (t .enum-told .given .1))
 
 returns-2 : tie.Need-returns-2
 returns-2 c =
+    let a = c .before in
+    let o = a .before .before .before in
+    let s = o .before .before .before in
+    refused (s .args .out .now) (told-refused (detailOf (s .args .bytes .now)) (composedBytes (s .args .bytes .now)) _ (o .of-list .ensures) _ _ (a .answer .given .1)) refl
+
+returns-3 : tie.Need-returns-3
+returns-3 c =
     let w = c .before .before in
-    let t = w .before .before in
-    let d = t .before .before in
-    let b = d .before .before in
-    let s = b .before in
-    let k = verdict-makes _ _ (s .pre) (d .decide .ensures) (below-all 256 (s .args .bytes .now) (λ i h. omega (arith, b .shared-slice-known .given i))) (t .enum-told .given .1) in
-    answers-same (s .args .out .now) (k .2) (w .write-list .ensures .0 (k .0) (k .1)) (w .write-list .ensures .1 (k .0) (k .1))
+    let e = w .before .before .before .before .before in
+    let t = e .before in
+    let o = t .before .before .before in
+    let s = o .before .before .before in
+    copy-done (detailOf (s .args .bytes .now)) (composedBytes (s .args .bytes .now)) _ (o .of-list .ensures) (t .enum-told .given .1) (s .args .out .now) _ _ _ refl refl (e .if1 .left) (w .copy .ensures .1)
 
 pub join-list-spec : {M : Type 1} → statement M
 join-list-spec =
@@ -41,8 +45,12 @@ join-list-spec =
     (tie.spec
     (λ c κs. search needs)
     (λ c. search needs)
-    enum-told
-    write-list-requires
+    (λ c. search needs)
     returns
     (λ c. search needs)
-    returns-2)
+    (λ c. search needs)
+    part-copy-end
+    (λ c κs. search needs)
+    returns-2
+    (λ c. search needs)
+    returns-3)

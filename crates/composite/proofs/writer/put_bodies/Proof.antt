@@ -10,13 +10,13 @@ use Rattle.composite.proofs.writer.put_bodies.Statement.{statement}
 use Rattle.composite.proofs.writer.put_bodies.Tie as tie
 
 abbrev row : List (List ℕ) → ℕ → List ℕ
-row rows j = getD rows j []
+row bodies j = getD bodies j []
 
 abbrev Inv-loop : tie.InvT-loop
-Inv-loop count out₀ rows i₀ out i = (i ≤ count) × Laid (row rows) 8 out₀ out i
+Inv-loop count out₀ bodies i₀ out i = (i ≤ count) × Laid (row bodies) 8 out₀ out i
 
 abbrev μ-loop : tie.MeasureT-loop
-μ-loop count out₀ rows i₀ out i = count - i
+μ-loop count out₀ bodies i₀ out i = count - i
 
 loop-holds : tie.Need-loop-holds Inv-loop μ-loop
 loop-holds c = (omega arith, none-laid _ 8 _)

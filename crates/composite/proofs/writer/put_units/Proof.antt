@@ -14,13 +14,13 @@ use Rattle.composite.proofs.writer.put_units.Statement.{statement}
 use Rattle.composite.proofs.writer.put_units.Tie as tie
 
 abbrev unitIn : List MainType → ℕ → List (List ℕ) → ℕ → List ℕ
-unitIn units s rows j = itemBytes (unitOf (getD units j (record { number = 0 }) .number) s (getD rows j []))
+unitIn units s bodies j = itemBytes (unitOf (getD units j (record { number = 0 }) .number) s (getD bodies j []))
 
 abbrev Inv-loop : tie.InvT-loop
-Inv-loop out₀ rows units count subtype i₀ out i = (i ≤ count) × Laid (unitIn units subtype rows) 10 out₀ out i
+Inv-loop out₀ bodies units count subtype i₀ out i = (i ≤ count) × Laid (unitIn units subtype bodies) 10 out₀ out i
 
 abbrev μ-loop : tie.MeasureT-loop
-μ-loop out₀ rows units count subtype i₀ out i = count - i
+μ-loop out₀ bodies units count subtype i₀ out i = count - i
 
 loop-holds : tie.Need-loop-holds Inv-loop μ-loop
 loop-holds c = (omega arith, none-laid _ 10 _)

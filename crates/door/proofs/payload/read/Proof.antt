@@ -1,4 +1,4 @@
--- `door::payload::read` meets its contract. Assumes nothing.
+-- `door::payload::read` meets its contract.
 use native.Mathlib.Omega.{arith}
 use Rattle.door.proofs.Payloads.{payload-long, payload-empty, payload-over, chars-length, characters, payload-accepted, payload-refused}
 use borrow.Author.Needs.{needs}
@@ -19,13 +19,13 @@ part-read-end c =
     let k = c .before .before .before .before in
     omega (arith, chars-length _ _ (k .before .if1 .left) (k .clean .ensures))
 
-part-bad-place-end : tie.Need-part-bad-place-end
-part-bad-place-end c =
+part-bad-offset-end : tie.Need-part-bad-offset-end
+part-bad-offset-end c =
     let k = c .before .before .before .before .before .before .before .before .before .before .before .before .before in
     omega (arith, chars-length _ _ (k .before .if1 .left) (k .clean .ensures))
 
-bad-place-requires : tie.Need-bad-place-requires
-bad-place-requires c κs =
+bad-offset-requires : tie.Need-bad-offset-requires
+bad-offset-requires c κs =
     let e = c .before .before .before .before .before .before .before .before .before .before .before .before in
     let k = e .before .before in
     characters _ _ (k .before .if1 .left) (k .clean .ensures) (e .before .if2 .left) (e .if3 .left)
@@ -35,14 +35,20 @@ returns-4 c =
     let w = c .before .before .before .before .before in
     let e = w .before .before .before .before .before in
     let k = e .before .before in
-    payload-accepted _ _ (k .before .if1 .left) (k .clean .ensures) (e .before .if2 .left) (e .if3 .left) _ _ (characters _ _ (k .before .if1 .left) (k .clean .ensures) (e .before .if2 .left) (e .if3 .left)) (k .before .before .before .before .pre) _ _ _ (w .read .ensures .0) (w .read .ensures .1) _ (c .before .n .given .1)
+    let s = k .before .before .before .before in
+    let chars = characters _ _ (k .before .if1 .left) (k .clean .ensures) (e .before .if2 .left) (e .if3 .left) in
+    payload-accepted _ _ (k .before .if1 .left) (k .clean .ensures) (e .before .if2 .left) (e .if3 .left) _ (s .args .out .now) _ _ chars
+    (w .read .ensures .0) (w .read .ensures .1) _ (c .before .n .given .1)
 
 returns-5 : tie.Need-returns-5
 returns-5 c =
     let w = c .before .before .before .before .before .before .before .before in
     let e = w .before .before .before .before .before in
     let k = e .before .before in
-    payload-refused _ _ (k .before .if1 .left) (k .clean .ensures) (e .before .if2 .left) (e .if3 .left) _ _ (characters _ _ (k .before .if1 .left) (k .clean .ensures) (e .before .if2 .left) (e .if3 .left)) (k .before .before .before .before .pre) _ _ _ (w .read .ensures .0) (w .read .ensures .1) _ _ (c .before .before .before .before .q .given .1) (c .bad-place .ensures)
+    let s = k .before .before .before .before in
+    let chars = characters _ _ (k .before .if1 .left) (k .clean .ensures) (e .before .if2 .left) (e .if3 .left) in
+    payload-refused _ _ (k .before .if1 .left) (k .clean .ensures) (e .before .if2 .left) (e .if3 .left) _ (s .args .out .now) _ _ chars
+    (w .read .ensures .0) (w .read .ensures .1) _ _ (c .before .before .before .before .q .given .1) (c .bad-offset .ensures)
 
 pub read-spec : {M : Type 1} → statement M
 read-spec =
@@ -60,8 +66,8 @@ read-spec =
     (λ c. search needs)
     (λ c. search needs)
     (λ c. search needs)
-    part-bad-place-end
-    bad-place-requires
+    part-bad-offset-end
+    bad-offset-requires
     (λ c. search needs)
     returns-4
     (λ c. search needs)

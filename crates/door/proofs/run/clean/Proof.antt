@@ -1,5 +1,5 @@
 -- `door::run::clean` meets its contract. Assumes nothing.
-use Rattle.door.proofs.Places.{cleaned-is}
+use Rattle.door.proofs.Offsets.{cleaned-is}
 use borrow.Author.Needs.{needs}
 use Rattle.door.proofs.run.clean.Statement.{statement}
 use Rattle.door.proofs.run.clean.Tie as tie

@@ -1,6 +1,6 @@
 -- `door::span::typed_span` meets its contract. Assumes nothing.
 use mathlib.Core.Path.{refl}
-use Rattle.door.proofs.Places.{span-found}
+use Rattle.door.proofs.Offsets.{span-found}
 use borrow.Author.Needs.{needs}
 use Rattle.door.proofs.span.typed_span.Statement.{statement}
 use Rattle.door.proofs.span.typed_span.Tie as tie

@@ -1,48 +1,49 @@
--- `door::text::write` meets its contract. Assumes nothing.
+-- `door::text::write` meets its contract.
 use native.Mathlib.Omega.{arith}
-use Rattle.door.proofs.Texts.{behind-scheme, never-short, text-area}
+use Rattle.door.proofs.Texts.{no-scheme, text-not, text-within, text-put}
 use borrow.Author.Needs.{needs}
 use Rattle.door.proofs.text.write.Statement.{statement}
 use Rattle.door.proofs.text.write.Tie as tie
 
-add-result : tie.Need-add-result
-add-result c =
-    let w = c .before .before .before .before .before in
-    let s = w .before .before .before .before .before .before .before .before in
-    let b = behind-scheme (s .args .code .now) (s .args .out .now) _ (s .pre .0) (s .pre .1) (w .before .before .before .before .put-scheme .ensures) _ (w .write .ensures .0) _ (c .before .n .given .1) in
-    omega arith
-
-enum-told : tie.Need-enum-told
-enum-told c = search needs
-
 returns : tie.Need-returns
-returns c =
-    let w = c .before .before .before .before .before in
-    let s = w .before .before .before .before .before .before .before .before in
-    let p = w .before .before .before .before .put-scheme .ensures in (
-      behind-scheme (s .args .code .now) (s .args .out .now) _ (s .pre .0) (s .pre .1) p _ (w .write .ensures .0) _ (c .before .n .given .1) .1,
-      text-area (s .args .code .now) (s .args .out .now) _ (s .pre .0) (s .pre .1) p _ (w .write .ensures .1),
-    )
+returns c = no-scheme _ _ (c .if1 .taken)
+
+add-t16 : tie.Need-add-t16
+add-t16 c =
+    let w = c .before .before .before .before .before .before .before .before .before in
+    let s = w .before .before .before .before .before in
+    let m = text-within (s .args .bytes .now) (s .args .out .now) (w .before .before .if1 .left) _ _
+    (w .write .ensures .0) (w .write .ensures .1) _ (c .before .before .before .before .before .n .given .1) in
+    omega arith
 
 returns-2 : tie.Need-returns-2
 returns-2 c =
-    let w = c .before .before .before .before in
-    let s = w .before .before .before .before .before .before .before .before in
-    absurd (never-short (s .args .code .now) (s .args .out .now) _ (s .pre .0) (s .pre .1) (w .before .before .before .before .put-scheme .ensures) _ (w .write .ensures .0) _ (c .enum-told .given .1))
+    let w = c .before .before .before .before .before .before .before .before .before in
+    let s = w .before .before .before .before .before in
+    text-put (s .args .bytes .now) (s .args .out .now) (w .before .before .if1 .left) _ _
+    (w .write .ensures .0) (w .write .ensures .1) _ (c .before .before .before .before .before .n .given .1) _ (c .before .before .put-scheme .ensures)
+
+returns-3 : tie.Need-returns-3
+returns-3 c =
+    let w = c .before .before .before .before .before in
+    let s = w .before .before .before .before .before in
+    text-not (s .args .bytes .now) (s .args .out .now) (w .before .before .if1 .left) _ _
+    (w .write .ensures .0) (w .write .ensures .1) _ (c .before .q .given .1)
 
 pub write-spec : {M : Type 1} → statement M
 write-spec =
     tie.close
     (tie.spec
-    (λ c κs. search needs)
-    (λ c. search needs)
-    (λ c. search needs)
-    (λ c. search needs)
-    (λ c κs. search needs)
-    (λ c. search needs)
-    add-result
-    enum-told
-    (λ c. search needs)
     returns
     (λ c. search needs)
-    returns-2)
+    (λ c. search needs)
+    (λ c. search needs)
+    (λ c κs. search needs)
+    (λ c. search needs)
+    (λ c κs. search needs)
+    add-t16
+    (λ c. search needs)
+    (λ c. search needs)
+    returns-2
+    (λ c. search needs)
+    returns-3)

@@ -4,7 +4,7 @@ use mathlib.Core.Path.{_≡_}
 use native.Mathlib.Omega.{arith}
 use borrow.Author.Needs.{needs}
 use lib.ListN.{length, drop}
-use Rattle.door.specs.Places.{blanksIn}
+use Rattle.door.specs.Offsets.{blanksIn}
 use Rattle.door.proofs.Blanks.{blanks-more, blanks-stop, blanks-all}
 use Rattle.door.proofs.trim.blanks.Statement.{statement}
 use Rattle.door.proofs.trim.blanks.Tie as tie

@@ -27,8 +27,8 @@ this c = turn _ _ _ (c .before .before .before .before .loop .inv) (c .before .b
 long : (c : tie.After-found2 Inv-loop μ-loop) → length (c .before .before .before .before .before .before .before .args .bytes .now) < 2 ^ 64
 long c = omega arith
 
-add-place : tie.Need-add-place Inv-loop μ-loop
-add-place c = let t = this (c .before .before) in record { fits = omega arith }
+add-offset : tie.Need-add-offset Inv-loop μ-loop
+add-offset c = let t = this (c .before .before) in record { fits = omega arith }
 
 sub-add : tie.Need-sub-add Inv-loop μ-loop
 sub-add c = let t = this (c .before .before .before) in omega arith
@@ -63,7 +63,7 @@ read-spec =
     (λ c. search needs)
     returns
     (λ c. search needs)
-    add-place
+    add-offset
     sub-add
     add-requires
     add-at

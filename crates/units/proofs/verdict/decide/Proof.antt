@@ -5,25 +5,25 @@ use Rattle.units.proofs.verdict.decide.Statement.{statement}
 use Rattle.units.proofs.verdict.decide.Tie as tie
 
 returns : tie.Need-returns
-returns c = λ bs is s. search (refused-10 bs is _ s)
+returns c = search refused-10
 
 returns-2 : tie.Need-returns-2
-returns-2 c = λ bs is s. search (refused-11 bs is _ s)
+returns-2 c = search refused-11
 
 returns-3 : tie.Need-returns-3
-returns-3 c = λ bs is s. search (refused-12 bs is _ s)
+returns-3 c = search refused-12
 
 returns-4 : tie.Need-returns-4
-returns-4 c = λ bs is s. search (refused-data bs is _ s)
+returns-4 c = search refused-data
 
 returns-5 : tie.Need-returns-5
-returns-5 c = λ bs is s. search (refused-instance bs is _ s)
+returns-5 c = search refused-instance
 
 returns-6 : tie.Need-returns-6
-returns-6 c = λ bs is s. search (refused-14 bs is _ s)
+returns-6 c = search refused-14
 
 returns-7 : tie.Need-returns-7
-returns-7 c = λ bs is s. search (makes-one bs is _ s)
+returns-7 c = search makes-one
 
 pub decide-spec : {M : Type 1} → statement M
 decide-spec =
@@ -32,9 +32,11 @@ decide-spec =
     returns
     returns-2
     returns-3
-    (λ c. search needs)
+    (λ c κs. search needs)
+    (λ c κs. search needs)
     returns-4
-    (λ c. search needs)
+    (λ c κs. search needs)
+    (λ c κs. search needs)
     returns-5
     returns-6
     returns-7)

@@ -1,0 +1,34 @@
+-- The numbers and lengths that the entries answer, as their contracts have them: what C may read from them.
+-- proofs/Numbers.antt proves it.
+use Prim.Native.Nat.{ℕ, _≤_}
+use mathlib.Core.Path.{_≡_}
+use mathlib.Core.Logic.{_↔_}
+use mathlib.Core.List.{List}
+use Rattle.iscc.specs.Answer.{Answer, Accepted, numberOf, written}
+use Rattle.iscc.specs.Digits.{Below}
+use Rattle.iscc.specs.Items.{join, split}
+use Rattle.iscc.specs.Doors.{intake, strict, readCode, writeText}
+use Rattle.iscc.specs.Distance.{distance}
+use Rattle.iscc.specs.Forms.{writtenAs, outcomeAs}
+use Rattle.iscc.specs.declared.written.Outcome.{Outcome}
+use Rattle.distance.specs.Forms.{measuredAs}
+use Rattle.console.specs.Forms.{distanceAnswerAs}
+
+-- a number that is 0 exactly where the definition accepts, and else one of the table
+pub record NumberFor {A : Type 0} (x : Answer A) (number : ℕ) : Type 0 where
+  pub success : (number ≡ 0) ↔ Accepted x
+  pub table : number ≤ 19
+
+-- what a writer tells: such a number, and the length written
+pub record ToldOf (x : Answer (List ℕ)) (o : Outcome) : Type 0 where
+  pub number : NumberFor x (o .number)
+  pub length : o .length ≡ written x
+
+pub record ConsoleNumbers : Type 0 where
+  pub intakeTold : (t : List ℕ) (area : ℕ) → ToldOf (intake t area) (outcomeAs (writtenAs (intake t area)))
+  pub codeTold : (t : List ℕ) (area : ℕ) → ToldOf (readCode t area) (outcomeAs (writtenAs (readCode t area)))
+  pub textTold : (bs : List ℕ) (area : ℕ) → ToldOf (writeText bs area) (outcomeAs (writtenAs (writeText bs area)))
+  pub joinTold : (bs : List ℕ) (area : ℕ) → Below 256 bs → ToldOf (join bs area) (outcomeAs (writtenAs (join bs area)))
+  pub splitTold : (bs : List ℕ) (area : ℕ) → ToldOf (split bs area) (outcomeAs (writtenAs (split bs area)))
+  pub strictTold : (t : List ℕ) → NumberFor (strict t) (numberOf (strict t))
+  pub distanceTold : (x y : List ℕ) → NumberFor (distance x y) (distanceAnswerAs (measuredAs (distance x y)) .number)

@@ -1,8 +1,0 @@
--- `probe_split` meets its contract: that of the call behind it. Assumes nothing.
-use borrow.Author.Needs.{needs}
-use Rattle.iscc.proofs.Forms.{outcome-is}
-use Rattle.probe.proofs.composites.probe_split.Statement.{statement}
-use Rattle.probe.proofs.composites.probe_split.Tie as tie
-
-pub probe-split-spec : {M : Type 1} → statement M
-probe-split-spec = tie.close (tie.spec (λ c κs. search needs) (λ c κs. search needs) (λ c. search needs) (λ c. (search outcome-is, search needs)))
