@@ -28,6 +28,7 @@ pub fn check() {
     for text in [&inputs::written()[0], &inputs::typed()[0], &inputs::listed()[0]] {
         neighbours(text, |text| {
             same_writing(library::intake, plain::intake, text, 80);
+            same_writing(library::code, plain::code, text, 50);
             same_writing(library::base32_read, plain::base32_read, text, 60);
             assert_eq!(library::strict(text), plain::strict(text), "on {text:02x?}");
         });
@@ -38,6 +39,7 @@ pub fn check() {
             same_writing(library::base32_write, plain::base32_write, bytes, 79);
         });
     }
+    neighbours(&inputs::codes()[0], |code| same_writing(library::text, plain::text, code, 80));
     let unit = &inputs::data_units(256)[0];
     neighbours(&inputs::data_units(128)[0], |other| {
         assert_eq!(library::distance(unit, other), plain::distance(unit, other), "on {other:02x?}");

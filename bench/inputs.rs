@@ -31,6 +31,10 @@ fn composite(random: &mut Random) -> Vec<u8> {
     [vec![0x50 | random.below(5) as u8, 7], random.bytes(40)].concat()
 }
 
+pub fn codes() -> Vec<Vec<u8>> {
+    variants(composite)
+}
+
 pub fn written() -> Vec<Vec<u8>> {
     variants(|random| [b"ISCC:".to_vec(), encoded(&composite(random))].concat())
 }

@@ -16,11 +16,13 @@ struct DistanceAnswer {
 
 extern "C" {
     fn iscc_intake(text: *const u8, text_len: usize, out: *mut u8, out_len: usize) -> Written;
+    fn iscc_code(text: *const u8, text_len: usize, out: *mut u8, out_len: usize) -> Written;
+    fn iscc_text(code: *const u8, code_len: usize, out: *mut u8, out_len: usize) -> Written;
+    fn iscc_join(units: *const u8, units_len: usize, out: *mut u8, out_len: usize) -> Written;
     fn iscc_strict(text: *const u8, text_len: usize) -> u32;
     fn iscc_distance(a: *const u8, a_len: usize, b: *const u8, b_len: usize) -> DistanceAnswer;
     fn probe_base32_read(text: *const u8, text_len: usize, out: *mut u8, out_len: usize) -> Written;
     fn probe_base32_write(bytes: *const u8, bytes_len: usize, out: *mut u8, out_len: usize) -> Written;
-    fn probe_join(bytes: *const u8, bytes_len: usize, out: *mut u8, out_len: usize) -> Written;
 }
 
 macro_rules! writers {
@@ -37,7 +39,9 @@ writers! {
     intake = iscc_intake;
     base32_read = probe_base32_read;
     base32_write = probe_base32_write;
-    join = probe_join;
+    code = iscc_code;
+    text = iscc_text;
+    join = iscc_join;
 }
 
 pub fn strict(text: &[u8]) -> u32 {

@@ -68,6 +68,8 @@ fn size(bytes: usize) -> String {
 }
 
 const INTAKE: Pair<Writer> = (library::intake, plain::intake);
+const CODE: Pair<Writer> = (library::code, plain::code);
+const TEXT: Pair<Writer> = (library::text, plain::text);
 const BASE32_READ: Pair<Writer> = (library::base32_read, plain::base32_read);
 const BASE32_WRITE: Pair<Writer> = (library::base32_write, plain::base32_write);
 const JOIN: Pair<Writer> = (library::join, plain::join);
@@ -78,6 +80,10 @@ fn doors() {
     writer("intake", "five units, 80 characters", INTAKE, &inputs::listed());
     strict("68 characters as written", &inputs::written());
     strict("68 characters, small, with hyphens (16)", &inputs::typed());
+    writer("code of a text", "68 characters as written", CODE, &inputs::written());
+    writer("code of a text", "68 characters, small, with hyphens", CODE, &inputs::typed());
+    writer("code of a text", "five units, 80 characters", CODE, &inputs::listed());
+    writer("text of a code", "42 bytes", TEXT, &inputs::codes());
     for length in [64, 256, KIB] {
         let texts = inputs::stretched(length);
         writer("intake", &format!("text of {}, hyphens", size(length)), INTAKE, &texts);

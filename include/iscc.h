@@ -1,5 +1,6 @@
 /*
- * The C interface of the console: both doors and the distance between two units.
+ * The C interface of the console: both doors, the code of a text and the text of a code, join and split, and the distance
+ * between two units.
  *
  * Link target/staticlib/libconsole.a (`rt staticlib console`). No memory is taken and nothing is kept
  * between calls, so that every entry may run in several threads at once.
@@ -31,9 +32,9 @@ enum iscc_number {
     ISCC_BAD_COUNT = 5,               /* the count of characters leaves 1, 3 or 6 over a multiple of 8 */
     ISCC_SPARE_BITS = 6,              /* a spare bit after the last whole byte is not zero */
     ISCC_BAD_HEADER = 7,              /* a header is cut, has the prefix 1111, or a pad nibble that is not zero */
-    ISCC_NOT_PERMITTED = 8,           /* a header is not permitted */
+    ISCC_NOT_PERMITTED = 8,           /* a header is not permitted, or is no composite's where split wants one */
     ISCC_SHORT_BODY = 9,              /* fewer body bytes than the header says */
-    ISCC_NOT_JOINABLE = 10,           /* two or more items, one being a composite or an ID */
+    ISCC_NOT_JOINABLE = 10,           /* two or more items, one being a composite or an ID; or join of one such item */
     ISCC_NOT_64_BITS = 11,            /* a unit in a list is not of 64 bits */
     ISCC_MAIN_TYPE_TWICE = 12,        /* a main type is twice in a list */
     ISCC_LACKS_DATA_OR_INSTANCE = 13, /* a list lacks DATA or INSTANCE */
@@ -45,8 +46,11 @@ enum iscc_number {
     ISCC_BYTES_LEFT_OVER = 19         /* bytes left over where exactly one unit is wanted */
 };
 
-/* The longest text that intake writes, and the least length of its output area. */
+/* The longest text that is written, and the least length of an output area for one. */
 #define ISCC_TEXT_AREA 73
+
+/* The longest code in bytes, and the least length of an output area for one. */
+#define ISCC_CODE_AREA 42
 
 /* ISCC_OK and the count of bytes written, or a refusal and 0. */
 typedef struct {
@@ -76,6 +80,36 @@ iscc_written iscc_intake(const uint8_t *text, size_t text_len, uint8_t *out, siz
 
 /* The strict door: ISCC_OK exactly if intake would write this very text; else 2, 1, 3 to 14 as intake, then 16. */
 uint32_t iscc_strict(const uint8_t *text, size_t text_len);
+
+/*
+ * The code of a text: its bytes, those of the one unit or composite that the text means. Two typed labels mean the same
+ * exactly when these bytes are the same.
+ *
+ * Refusals: 15 where the area is below ISCC_CODE_AREA bytes, whatever the text; then 2, 1, 3 to 14 as intake.
+ */
+iscc_written iscc_code(const uint8_t *text, size_t text_len, uint8_t *out, size_t out_len);
+
+/*
+ * The text of a code: writes the one text of the unit or composite that the bytes are.
+ *
+ * Refusals: 15 where the area is below ISCC_TEXT_AREA bytes, whatever the code; then 7, 8, 9, 19 of the bytes.
+ */
+iscc_written iscc_text(const uint8_t *code, size_t code_len, uint8_t *out, size_t out_len);
+
+/*
+ * Joins units laid end to end to the composite that they make, whatever their order.
+ *
+ * Refusals: 7, 8, 9 for each unit from the left (no bytes are 7); of one item alone 10 for a composite or an ID, else 13; of
+ * more 10 to 14; then 15 where the area is shorter than the composite (18 to 42 bytes).
+ */
+iscc_written iscc_join(const uint8_t *units, size_t units_len, uint8_t *out, size_t out_len);
+
+/*
+ * Splits a composite into its units, laid end to end in the composite's order: 10 bytes for each.
+ *
+ * Refusals: 7, 8, 9, 19 of the bytes, then 8 for anything but a composite, then 15.
+ */
+iscc_written iscc_split(const uint8_t *code, size_t code_len, uint8_t *out, size_t out_len);
 
 /*
  * The distance between two units, each an area of its bytes (header and body, not text).

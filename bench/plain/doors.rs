@@ -1,10 +1,12 @@
 //! Both doors over local arrays.
 
 use crate::base32;
+use crate::items;
 use crate::join::{compose, read_list};
 
 const SCHEME: &[u8; 5] = b"ISCC:";
 const LONGEST: usize = 73;
+const LONGEST_CODE: usize = 42;
 
 fn is_blank(byte: &u8) -> bool {
     matches!(byte, b' ' | b'\t' | b'\r' | b'\n')
@@ -46,8 +48,20 @@ fn clean(text: &[u8], run: &mut [u8; 80]) -> Result<usize, u32> {
     Ok(count)
 }
 
-/// The text that intake writes.
-fn canonical(text: &[u8], out: &mut [u8; LONGEST]) -> Result<usize, u32> {
+/// A code and how many bytes it has.
+struct Code {
+    bytes: [u8; LONGEST_CODE],
+    length: usize,
+}
+
+impl Code {
+    fn bytes(&self) -> &[u8] {
+        &self.bytes[..self.length]
+    }
+}
+
+/// The code that a text holds.
+fn code_of(text: &[u8]) -> Result<Code, u32> {
     if text.len() > 1024 {
         return Err(2);
     }
@@ -57,17 +71,20 @@ fn canonical(text: &[u8], out: &mut [u8; LONGEST]) -> Result<usize, u32> {
     let mut bytes = [0; 50];
     base32::decode(&run[..count], &mut bytes[..length]);
     let list = read_list(&bytes[..length])?;
-    let mut composite = [0; 42];
-    let code = if list.count == 1 {
-        &bytes[..length]
+    let mut code = Code { bytes: [0; LONGEST_CODE], length };
+    if list.count == 1 {
+        code.bytes[..length].copy_from_slice(&bytes[..length]);
     } else {
-        let length = compose(&list, &mut composite)?;
-        &composite[..length]
-    };
+        code.length = compose(&list, &mut code.bytes)?;
+    }
+    Ok(code)
+}
+
+fn spell(code: &[u8], out: &mut [u8]) -> usize {
     let end = 5 + base32::encoded_length(code.len());
     out[..5].copy_from_slice(SCHEME);
     base32::encode(code, &mut out[5..end]);
-    Ok(end)
+    end
 }
 
 #[inline(never)]
@@ -75,22 +92,46 @@ pub fn intake(text: &[u8], out: &mut [u8]) -> (u32, usize) {
     if out.len() < LONGEST {
         return (15, 0);
     }
+    code_of(text).map_or_else(|number| (number, 0), |code| (0, spell(code.bytes(), out)))
+}
+
+#[inline(never)]
+pub fn strict(text: &[u8]) -> u32 {
+    let code = match code_of(text) {
+        Err(number) => return number,
+        Ok(code) => code,
+    };
     let mut written = [0; LONGEST];
-    match canonical(text, &mut written) {
+    let length = spell(code.bytes(), &mut written);
+    if written[..length] == *text {
+        0
+    } else {
+        16
+    }
+}
+
+#[inline(never)]
+pub fn code(text: &[u8], out: &mut [u8]) -> (u32, usize) {
+    if out.len() < LONGEST_CODE {
+        return (15, 0);
+    }
+    match code_of(text) {
         Err(number) => (number, 0),
-        Ok(length) => {
-            out[..length].copy_from_slice(&written[..length]);
-            (0, length)
+        Ok(code) => {
+            out[..code.length].copy_from_slice(code.bytes());
+            (0, code.length)
         }
     }
 }
 
 #[inline(never)]
-pub fn strict(text: &[u8]) -> u32 {
-    let mut written = [0; LONGEST];
-    match canonical(text, &mut written) {
-        Err(number) => number,
-        Ok(length) if written[..length] == *text => 0,
-        Ok(_) => 16,
+pub fn text(code: &[u8], out: &mut [u8]) -> (u32, usize) {
+    if out.len() < LONGEST {
+        return (15, 0);
+    }
+    match items::read(code) {
+        Err(number) => (number, 0),
+        Ok(item) if item.used() < code.len() => (19, 0),
+        Ok(_) => (0, spell(code, out)),
     }
 }

@@ -9,5 +9,5 @@ mod join;
 
 pub use base32::{base32_read, base32_write};
 pub use distance::distance;
-pub use doors::{intake, strict};
+pub use doors::{code, intake, strict, text};
 pub use join::join;

@@ -1,31 +1,50 @@
 /*
- * A label from the counter, as a console takes it in.
+ * Labels from the counter, as a console takes them in: one is written as its one text, and two are compared.
  *
  *   rt staticlib console
  *   gcc -Iinclude examples/c/console.c target/staticlib/libconsole.a -o target/console
- *   target/console 'GAAW2PRCRS5LNVZV-IAAUVACQKXE3V44W'
+ *   target/console 'GAAW2PRCRS5LNVZV-IAAUVACQKXE3V44W' 'iscc:iaauvacqkxe3v44w-gaaw2prcrs5lnvzv'
  */
 #include "iscc.h"
 
 #include <stdio.h>
 #include <string.h>
 
+typedef struct {
+    uint8_t bytes[ISCC_CODE_AREA];
+    size_t length;
+} code;
+
+/* The code of a typed label; tells its refusal where there is none. */
+static int code_of(const char *typed, code *c) {
+    iscc_written answer = iscc_code((const uint8_t *)typed, strlen(typed), c->bytes, sizeof c->bytes);
+    if (answer.number != ISCC_OK) printf("%s: refused %u\n", typed, (unsigned)answer.number);
+    c->length = answer.length;
+    return answer.number == ISCC_OK;
+}
+
+/* Two typed labels mean the same exactly when their codes are the same bytes. */
+static int same_code(const code *a, const code *b) {
+    return a->length == b->length && memcmp(a->bytes, b->bytes, a->length) == 0;
+}
+
 int main(int count, char **words) {
-    const char *typed = count > 1 ? words[1] : "GAAW2PRCRS5LNVZV-IAAUVACQKXE3V44W";
+    const char *one = count > 2 ? words[1] : "GAAW2PRCRS5LNVZV-IAAUVACQKXE3V44W";
+    const char *two = count > 2 ? words[2] : "iscc:iaauvacqkxe3v44w-gaaw2prcrs5lnvzv";
     uint8_t text[ISCC_TEXT_AREA];
+    code a, b;
 
-    iscc_written code = iscc_intake((const uint8_t *)typed, strlen(typed), text, sizeof text);
-    if (code.number != ISCC_OK) {
-        printf("refused %u\n", (unsigned)code.number);
-        return 1;
-    }
-    printf("%.*s\n", (int)code.length, (const char *)text);
+    if (!code_of(one, &a) || !code_of(two, &b)) return 1;
+    iscc_written written = iscc_text(a.bytes, a.length, text, sizeof text);
+    printf("%.*s\n", (int)written.length, (const char *)text);
 
-    /* What intake wrote is what the strict door takes. */
-    printf("strict %u\n", (unsigned)iscc_strict(text, code.length));
+    /* What is written is what the strict door takes. */
+    printf("strict %u\n", (unsigned)iscc_strict(text, written.length));
+    printf("%s\n", same_code(&a, &b) ? "the same code" : "another code");
 
-    const uint8_t a[] = {0x30, 0, 0, 0, 0, 0}, b[] = {0x30, 0, 0xff, 0, 0, 1};
-    iscc_distance_answer far = iscc_distance(a, sizeof a, b, sizeof b);
+    /* The distance of two labels is that of their codes. */
+    if (!code_of("gaaaaaaaaa", &a) || !code_of("GAAP6-AAAAE", &b)) return 1;
+    iscc_distance_answer far = iscc_distance(a.bytes, a.length, b.bytes, b.length);
     printf("distance %u of %u bits, ratio %g\n", (unsigned)far.d, (unsigned)far.n, far.ratio);
     return 0;
 }

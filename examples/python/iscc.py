@@ -1,4 +1,4 @@
-"""Both doors and the distance from Python, by ctypes over a shared library that is made from the static one:
+"""Both doors, codes and the distance from Python, by ctypes over a shared library that is made from the static one:
 
     rt staticlib console
     gcc -shared -o target/libconsole.so -Wl,--whole-archive target/staticlib/libconsole.a -Wl,--no-whole-archive
@@ -9,13 +9,15 @@ In a program of your own:
     import iscc
     iscc.intake(b"iscc:maagztfqttvizpjr")      # b'ISCC:MAAGZTFQTTVIZPJR'
     iscc.strict(b"iscc:maagztfqttvizpjr")      # 16
+    iscc.code(b"iscc:maagztfqttvizpjr").hex()  # '60006cccb09cea8cbd31'
 """
 
 import ctypes
 import os
 import pathlib
 
-TEXT_AREA = 73  # the longest text that intake writes
+TEXT_AREA = 73  # the longest text that is written
+CODE_AREA = 42  # the longest code
 
 
 class Written(ctypes.Structure):
@@ -38,7 +40,8 @@ def _load():
     top = pathlib.Path(__file__).resolve().parents[2]
     library = ctypes.CDLL(os.environ.get("ISCC_LIBRARY", str(top / "target" / "libconsole.so")))
     area = [ctypes.c_char_p, ctypes.c_size_t]
-    library.iscc_intake.argtypes, library.iscc_intake.restype = area + area, Written
+    for writer in (library.iscc_intake, library.iscc_code, library.iscc_text):
+        writer.argtypes, writer.restype = area + area, Written
     library.iscc_strict.argtypes, library.iscc_strict.restype = area, ctypes.c_uint32
     library.iscc_distance.argtypes, library.iscc_distance.restype = area + area, DistanceAnswer
     return library
@@ -47,13 +50,27 @@ def _load():
 _library = _load()
 
 
-def intake(text):
-    """The one text of the code that `text` (bytes) spells."""
-    out = ctypes.create_string_buffer(TEXT_AREA)
-    answer = _library.iscc_intake(text, len(text), out, TEXT_AREA)
+def _written(call, data, area):
+    out = ctypes.create_string_buffer(area)
+    answer = call(data, len(data), out, area)
     if answer.number:
         raise Refused(answer.number)
     return out.raw[: answer.length]
+
+
+def intake(text):
+    """The one text of the code that `text` (bytes) spells."""
+    return _written(_library.iscc_intake, text, TEXT_AREA)
+
+
+def code(text):
+    """The bytes of the code that `text` (bytes) spells: two labels mean the same exactly when these are the same."""
+    return _written(_library.iscc_code, text, CODE_AREA)
+
+
+def text(code):
+    """The one text of a code given as bytes."""
+    return _written(_library.iscc_text, code, TEXT_AREA)
 
 
 def strict(text):
@@ -72,4 +89,5 @@ def distance(a, b):
 if __name__ == "__main__":
     print(intake(b"GAAW2PRCRS5LNVZV-IAAUVACQKXE3V44W").decode())
     print(strict(b"GAAW2PRCRS5LNVZV-IAAUVACQKXE3V44W"))
-    print(distance(bytes.fromhex("300000000000"), bytes.fromhex("3000ff000001")))
+    print(code(b"GAAW2PRCRS5LNVZV-IAAUVACQKXE3V44W") == code(b"iscc:iaauvacqkxe3v44w-gaaw2prcrs5lnvzv"))
+    print(distance(code(b"gaaaaaaaaa"), code(b"GAAP6-AAAAE")))

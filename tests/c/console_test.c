@@ -1,4 +1,4 @@
-/* The three console entries as the console uses them: every area is a heap block of just its length, and answers are those
+/* The console's entries as the console uses them: every area is a heap block of just its length, and answers are those
  * of document 01. Built with the address and undefined behaviour checks of the compiler. */
 #include "iscc.h"
 
@@ -173,6 +173,62 @@ static void distances(void) {
     no_distance(left_over, sizeof left_over, cut, sizeof cut, ISCC_BYTES_LEFT_OVER, "left over");
 }
 
+typedef iscc_written entry(const uint8_t *, size_t, uint8_t *, size_t);
+
+/* An entry on these bytes with an area of `area` bytes: it must answer `number` and, on success, write `due` and nothing behind. */
+static void writes(entry *call, const void *bytes, size_t length, size_t area, uint32_t number, const void *due, size_t due_length, const char *of) {
+    const uint8_t fills[] = {0x00, 0x5a, 0xff};
+    for (size_t i = 0; i < sizeof fills; i++) {
+        uint8_t *read = copy_of(bytes, length);
+        uint8_t *out = area == 0 ? NULL : malloc(area);
+        if (area != 0) memset(out, fills[i], area);
+        iscc_written answer = call(read, length, out, area);
+        expect(answer.number == number, "another number", of);
+        expect(answer.length == due_length, "another length", of);
+        if (answer.length == due_length && due_length <= area) {
+            if (due_length > 0) expect(memcmp(out, due, due_length) == 0, "other bytes", of);
+            expect(all_are(out + due_length, area - due_length, fills[i]), "a byte that must stay was changed", of);
+        }
+        if (length > 0) expect(memcmp(read, bytes, length) == 0, "an area for reading was changed", of);
+        free(read);
+        free(out);
+    }
+}
+
+static void refuses(entry *call, const void *bytes, size_t length, size_t area, uint32_t number, const char *of) {
+    writes(call, bytes, length, area, number, NULL, 0, of);
+}
+
+/* The units and the composite of the line case; two typed labels of it have the same code. */
+static void codes(void) {
+    const uint8_t units[] = {0x30, 0x01, 0x6d, 0x3e, 0x22, 0x8c, 0xba, 0xb6, 0xd7, 0x35,
+                             0x40, 0x01, 0x4a, 0x80, 0x50, 0x55, 0xc9, 0xba, 0xf3, 0x96};
+    uint8_t composite[18] = {0x55, 0x00}, unit_behind[11] = {0};
+    const char *label = "GAAW2PRCRS5LNVZV-IAAUVACQKXE3V44W", *other = "iscc:iaauvacqkxe3v44wgaaw2prcrs5lnvzv";
+    const char *text = "ISCC:KUAG2PRCRS5LNVZVJKAFAVOJXLZZM";
+    memcpy(composite + 2, units + 2, 8);
+    memcpy(composite + 10, units + 12, 8);
+    memcpy(unit_behind, units, 10);
+    writes(iscc_code, label, strlen(label), ISCC_CODE_AREA, ISCC_OK, composite, 18, "code of a label");
+    writes(iscc_code, other, strlen(other), 50, ISCC_OK, composite, 18, "code of another label");
+    refuses(iscc_code, label, strlen(label), 41, ISCC_AREA_TOO_SHORT, "code, area of 41");
+    refuses(iscc_code, "A1", 2, 41, ISCC_AREA_TOO_SHORT, "code, area of 41");
+    refuses(iscc_code, "A1", 2, ISCC_CODE_AREA, ISCC_BAD_CHARACTER, "code of A1");
+    refuses(iscc_code, NULL, 0, ISCC_CODE_AREA, ISCC_EMPTY_TEXT, "code of no text");
+    writes(iscc_text, composite, 18, ISCC_TEXT_AREA, ISCC_OK, text, strlen(text), "text of a code");
+    refuses(iscc_text, composite, 18, 72, ISCC_AREA_TOO_SHORT, "text, area of 72");
+    refuses(iscc_text, composite, 17, ISCC_TEXT_AREA, ISCC_SHORT_BODY, "text of a cut code");
+    refuses(iscc_text, unit_behind, 11, ISCC_TEXT_AREA, ISCC_BYTES_LEFT_OVER, "text of a unit and a byte");
+    refuses(iscc_text, units, 20, ISCC_TEXT_AREA, ISCC_BYTES_LEFT_OVER, "text of two units");
+    refuses(iscc_text, NULL, 0, ISCC_TEXT_AREA, ISCC_BAD_HEADER, "text of no code");
+    writes(iscc_join, units, 20, 18, ISCC_OK, composite, 18, "join");
+    refuses(iscc_join, units, 20, 17, ISCC_AREA_TOO_SHORT, "join, area of 17");
+    refuses(iscc_join, units, 10, 42, ISCC_LACKS_DATA_OR_INSTANCE, "join of one unit");
+    writes(iscc_split, composite, 18, 20, ISCC_OK, units, 20, "split");
+    refuses(iscc_split, composite, 18, 19, ISCC_AREA_TOO_SHORT, "split, area of 19");
+    refuses(iscc_split, units, 10, 20, ISCC_NOT_PERMITTED, "split of a unit");
+}
+
 static void block(const char *name, void (*run)(void)) {
     block_ok = true;
     run();
@@ -189,6 +245,7 @@ int main(void) {
     block("areas", areas);
     block("long texts", long_texts);
     block("distances", distances);
+    block("codes", codes);
     printf("%d passed, %d failed\n", passed, failed);
     return failed != 0;
 }

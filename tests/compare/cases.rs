@@ -11,8 +11,9 @@ const AMPLE: usize = 1 << 18;
 pub fn request(random: &mut Random, call: Call) -> Request {
     let mut request = Request::new(call);
     match call {
-        Call::Intake => request.first = texts::text(random),
+        Call::Intake | Call::Code => request.first = texts::text(random),
         Call::Strict => request.first = texts::nearly_written(random),
+        Call::Text => request.first = one_code(random),
         Call::Distance => (request.first, request.second) = two_units(random),
         Call::Base32Read => {
             let bytes = plain_bytes(random);
@@ -34,8 +35,10 @@ pub fn request(random: &mut Random, call: Call) -> Request {
 fn area(random: &mut Random, request: &Request) -> usize {
     match request.call {
         Call::Strict | Call::Distance | Call::HeaderRead | Call::UnitRead => 0,
-        Call::Intake if random.percent(90) => random.pick(&[73, 73, 74, 80, 100, 1024]),
-        Call::Intake => random.pick(&[0, 1, 20, 71, 72, 73]),
+        Call::Intake | Call::Text if random.percent(90) => random.pick(&[73, 73, 74, 80, 100, 1024]),
+        Call::Intake | Call::Text => random.pick(&[0, 1, 20, 71, 72, 73]),
+        Call::Code if random.percent(90) => random.pick(&[42, 42, 43, 50, 73, 1024]),
+        Call::Code => random.pick(&[0, 1, 18, 40, 41, 42]),
         _ => {
             let ample = Request { area: AMPLE, ..request.clone() };
             let need = expected::answer(&ample).written.len();
@@ -104,6 +107,19 @@ fn header_and_body(random: &mut Random) -> ([u32; 4], Vec<u8>) {
         _ => (),
     }
     (header, body)
+}
+
+/// Mostly one unit or composite; else with a byte changed, cut or behind it, or any items.
+fn one_code(random: &mut Random) -> Vec<u8> {
+    let mut bytes = match random.below(10) {
+        0..=4 => codes::composite(random),
+        5..=8 => codes::unit(random),
+        _ => codes::items(random),
+    };
+    if random.percent(30) {
+        codes::damage(random, &mut bytes);
+    }
+    bytes
 }
 
 fn composite_bytes(random: &mut Random) -> Vec<u8> {

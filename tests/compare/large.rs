@@ -24,6 +24,7 @@ pub fn requests(random: &mut Random) -> Vec<Request> {
     add(Call::Base32Read, text.clone());
     add(Call::Intake, text.clone());
     add(Call::Strict, text.clone());
+    add(Call::Code, text.clone());
     *text.last_mut().unwrap() = b'1';
     add(Call::Base32Read, text);
     let ends = [vec![], vec![0x30], vec![0x70, 0], codes::composite(random), codes::unit(random)];
@@ -32,7 +33,7 @@ pub fn requests(random: &mut Random) -> Vec<Request> {
     }
     for head in [codes::unit(random), codes::composite(random)] {
         let long = [head, random.bytes(MEBIBYTE)].concat();
-        for call in [Call::UnitRead, Call::HeaderRead, Call::Split, Call::Distance] {
+        for call in [Call::UnitRead, Call::HeaderRead, Call::Split, Call::Text, Call::Distance] {
             add(call, long.clone());
         }
     }

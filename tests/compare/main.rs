@@ -20,8 +20,10 @@ use std::process::ExitCode;
 /// The part of all cases that goes to a call, in hundredths.
 fn share(call: Call) -> usize {
     match call {
-        Call::Intake => 30,
-        Call::Strict => 20,
+        Call::Intake => 24,
+        Call::Strict => 16,
+        Call::Code => 6,
+        Call::Text => 4,
         Call::Join => 12,
         Call::Split | Call::UnitRead | Call::UnitWrite => 6,
         Call::Distance | Call::HeaderRead => 5,

@@ -7,6 +7,8 @@ use std::fmt;
 pub enum Call {
     Intake,
     Strict,
+    Code,
+    Text,
     Distance,
     Base32Read,
     Base32Write,
@@ -19,9 +21,11 @@ pub enum Call {
 }
 
 impl Call {
-    pub const ALL: [Call; 11] = [
+    pub const ALL: [Call; 13] = [
         Call::Intake,
         Call::Strict,
+        Call::Code,
+        Call::Text,
         Call::Distance,
         Call::Base32Read,
         Call::Base32Write,
@@ -37,6 +41,8 @@ impl Call {
         match self {
             Call::Intake => "intake",
             Call::Strict => "strict",
+            Call::Code => "code",
+            Call::Text => "text",
             Call::Distance => "distance",
             Call::Base32Read => "base32_read",
             Call::Base32Write => "base32_write",
@@ -54,6 +60,8 @@ impl Call {
         match self {
             Call::Intake => &[0, 1, 2, 3, 4, 5, 6, 7, 8, 9, 10, 11, 12, 13, 14, 15],
             Call::Strict => &[0, 1, 2, 3, 4, 5, 6, 7, 8, 9, 10, 11, 12, 13, 14, 16],
+            Call::Code => &[0, 1, 2, 3, 4, 5, 6, 7, 8, 9, 10, 11, 12, 13, 14, 15],
+            Call::Text => &[0, 7, 8, 9, 15, 19],
             Call::Distance => &[0, 7, 8, 9, 18, 19],
             Call::Base32Read => &[0, 4, 5, 6, 15],
             Call::Base32Write => &[0, 15],

@@ -33,6 +33,8 @@ pub fn answer(request: &Request) -> Response {
     match call {
         Call::Intake => written(doors::intake(first, *area)),
         Call::Strict => written(doors::strict(first).map(|()| Vec::new())),
+        Call::Code => written(doors::code(first, *area)),
+        Call::Text => written(doors::text(first, *area)),
         Call::Distance => measured(distance::distance(first, second)),
         Call::Base32Read => written(base32::read(first, *area)),
         Call::Base32Write => written(base32::write(first, *area)),

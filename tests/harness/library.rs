@@ -34,11 +34,13 @@ type Reader = unsafe extern "C" fn(*const u8, usize) -> HeaderAnswer;
 extern "C" {
     fn iscc_intake(text: *const u8, text_len: usize, out: *mut u8, out_len: usize) -> Written;
     fn iscc_strict(text: *const u8, text_len: usize) -> u32;
+    fn iscc_code(text: *const u8, text_len: usize, out: *mut u8, out_len: usize) -> Written;
+    fn iscc_text(code: *const u8, code_len: usize, out: *mut u8, out_len: usize) -> Written;
+    fn iscc_join(units: *const u8, units_len: usize, out: *mut u8, out_len: usize) -> Written;
+    fn iscc_split(code: *const u8, code_len: usize, out: *mut u8, out_len: usize) -> Written;
     fn iscc_distance(a: *const u8, a_len: usize, b: *const u8, b_len: usize) -> DistanceAnswer;
     fn probe_base32_read(text: *const u8, text_len: usize, out: *mut u8, out_len: usize) -> Written;
     fn probe_base32_write(bytes: *const u8, bytes_len: usize, out: *mut u8, out_len: usize) -> Written;
-    fn probe_join(bytes: *const u8, bytes_len: usize, out: *mut u8, out_len: usize) -> Written;
-    fn probe_split(bytes: *const u8, bytes_len: usize, out: *mut u8, out_len: usize) -> Written;
     fn probe_header_read(bytes: *const u8, bytes_len: usize) -> HeaderAnswer;
     fn probe_header_write(main_type: u32, subtype: u32, version: u32, length: u32, out: *mut u8, out_len: usize) -> Written;
     fn probe_unit_read(bytes: *const u8, bytes_len: usize) -> HeaderAnswer;
@@ -154,6 +156,8 @@ unsafe fn enter(request: &Request, first: *const u8, second: *const u8, out: *mu
     match call {
         Call::Intake => write(iscc_intake),
         Call::Strict => Response::refused(iscc_strict(first, first_len)),
+        Call::Code => write(iscc_code),
+        Call::Text => write(iscc_text),
         Call::Distance => measured(iscc_distance(first, first_len, second, second_len)),
         Call::Base32Read => write(probe_base32_read),
         Call::Base32Write => write(probe_base32_write),
@@ -161,8 +165,8 @@ unsafe fn enter(request: &Request, first: *const u8, second: *const u8, out: *mu
         Call::HeaderWrite => written(probe_header_write(main_type, subtype, version, length, out, area)),
         Call::UnitRead => read(probe_unit_read),
         Call::UnitWrite => written(probe_unit_write(main_type, subtype, version, length, second, second_len, out, area)),
-        Call::Join => write(probe_join),
-        Call::Split => write(probe_split),
+        Call::Join => write(iscc_join),
+        Call::Split => write(iscc_split),
     }
 }
 

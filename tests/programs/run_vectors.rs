@@ -27,16 +27,20 @@ fn main() -> ExitCode {
 /// One check for each call's file, and one that no other table stands in the folder unread.
 fn call_files(folder: &Path, tally: &mut Tally) {
     let mut library = Library::new(LONGEST);
-    for call in Call::ALL {
-        let name = format!("{}.tsv", call.name());
-        let found = fs::read_to_string(folder.join(&name))
-            .map_err(|error| error.to_string())
-            .and_then(|table| run_table(call, &table, &mut library));
-        report(tally, &name, found);
+    let table = |call: Call| fs::read_to_string(folder.join(format!("{}.tsv", call.name()))).map_err(|error| error.to_string());
+    for call in Call::ALL.into_iter().filter(|&call| has_table(call)) {
+        let found = table(call).and_then(|table| run_table(&table, &mut library, |line| parse(call, line), answers));
+        report(tally, &format!("{}.tsv", call.name()), found);
     }
+    let intake = |line: &str| parse(Call::Intake, line);
+    let found = table(Call::Intake).and_then(|table| run_table(&table, &mut library, intake, through_code));
+    report(tally, "intake.tsv through the code", found);
+    let units = |line: &str| parse(Call::UnitRead, line);
+    let found = table(Call::UnitRead).and_then(|table| run_table(&table, &mut library, units, as_one_code));
+    report(tally, "unit_read.tsv as one code", found);
     let unread: Vec<String> = names(folder, ".tsv")
         .into_iter()
-        .filter(|name| Call::ALL.iter().all(|call| format!("{}.tsv", call.name()) != *name))
+        .filter(|name| Call::ALL.iter().all(|&call| !has_table(call) || format!("{}.tsv", call.name()) != *name))
         .collect();
     if !unread.is_empty() {
         tally.check("tables", false, format!("no call reads {unread:?}"));
@@ -60,18 +64,64 @@ fn names(folder: &Path, ending: &str) -> Vec<String> {
     names
 }
 
+/// The code of a text and the text of a code have no table of their own: they are held against those of other calls.
+fn has_table(call: Call) -> bool {
+    !matches!(call, Call::Code | Call::Text)
+}
+
+/// What a line of a table asks of the library under one setting; an error tells the difference.
+type Check = fn(&mut Library, &Request, &Response, &Setting) -> Result<(), String>;
+
+fn answers(library: &mut Library, request: &Request, due: &Response, setting: &Setting) -> Result<(), String> {
+    let found = library.answer(request, setting);
+    if found.as_ref() == Ok(due) {
+        return Ok(());
+    }
+    let found = found.map_or_else(|fault| fault, |response| response.to_string());
+    Err(format!("\n  {request}\n  expected {due}\n  found    {found}"))
+}
+
+/// The code of a text refuses as intake does but for the area, and the text of the code is what intake writes.
+fn through_code(library: &mut Library, request: &Request, due: &Response, setting: &Setting) -> Result<(), String> {
+    let code = |area| Request { first: request.first.clone(), area, ..Request::new(Call::Code) };
+    answers(library, &code(41), &Response::refused(15), setting)?;
+    if due.number == 15 {
+        return Ok(());
+    }
+    if due.number != 0 {
+        return answers(library, &code(42), due, setting);
+    }
+    let found = library.answer(&code(42), setting)?;
+    let text = |area| Request { first: found.written.clone(), area, ..Request::new(Call::Text) };
+    answers(library, &text(72), &Response::refused(15), setting)?;
+    answers(library, &text(73), due, setting)
+}
+
+/// The text of bytes is refused as the reader of one unit says, and with 19 where it leaves bytes over; else it reads back.
+fn as_one_code(library: &mut Library, request: &Request, due: &Response, setting: &Setting) -> Result<(), String> {
+    let text = Request { first: request.first.clone(), area: 73, ..Request::new(Call::Text) };
+    let left = due.number == 0 && due.values[4] < request.first.len() as u64;
+    if due.number != 0 || left {
+        return answers(library, &text, &Response::refused(if left { 19 } else { due.number }), setting);
+    }
+    let found = library.answer(&text, setting)?;
+    let code = Request { first: found.written, area: 42, ..Request::new(Call::Code) };
+    answers(library, &code, &Response::written(request.first.clone()), setting)
+}
+
 /// Runs each line of a table under every setting; tells how many lines, or the first that differs.
-fn run_table(call: Call, table: &str, library: &mut Library) -> Result<String, String> {
+fn run_table(
+    table: &str,
+    library: &mut Library,
+    parse: impl Fn(&str) -> Option<(Request, Response)>,
+    check: Check,
+) -> Result<String, String> {
     let settings = settings();
     let mut lines = 0;
     for (at, line) in table.lines().enumerate().filter(|(_, line)| !line.starts_with('#')) {
-        let (request, expected) = parse(call, line).ok_or(format!("line {} cannot be read", at + 1))?;
+        let (request, due) = parse(line).ok_or(format!("line {} cannot be read", at + 1))?;
         for setting in &settings {
-            let found = library.answer(&request, setting);
-            if found.as_ref() != Ok(&expected) {
-                let found = found.map_or_else(|fault| fault, |response| response.to_string());
-                return Err(format!("line {}\n  {request}\n  expected {expected}\n  found    {found}", at + 1));
-            }
+            check(library, &request, &due, setting).map_err(|difference| format!("line {}: {difference}", at + 1))?;
         }
         lines += 1;
     }
@@ -139,6 +189,7 @@ fn parse_request(call: Call, columns: &mut Columns) -> Option<Request> {
             request.header = columns.header()?;
             request.second = columns.bytes()?;
         }
+        Call::Code | Call::Text => return None,
         Call::Intake | Call::Base32Read | Call::Base32Write | Call::Join | Call::Split => {
             request.area = columns.number()?;
             request.first = columns.bytes()?;
@@ -156,6 +207,7 @@ fn parse_response(request: &Request, columns: &mut Columns) -> Option<Response> 
             let [main_type, subtype, version, length] = columns.header()?.map(u64::from);
             response.values = [main_type, subtype, version, length, columns.number()?];
         }
+        Call::Code | Call::Text => return None,
         Call::Intake | Call::Base32Read | Call::Join => {
             response.values[0] = columns.number()?;
             columns.told()?;

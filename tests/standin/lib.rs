@@ -78,10 +78,12 @@ macro_rules! writers {
 
 writers! {
     iscc_intake = doors::intake;
+    iscc_code = doors::code;
+    iscc_text = doors::text;
+    iscc_join = composite::join;
+    iscc_split = composite::split;
     probe_base32_read = base32::read;
     probe_base32_write = base32::write;
-    probe_join = composite::join;
-    probe_split = composite::split;
 }
 
 #[no_mangle]
