@@ -1,4 +1,4 @@
--- The alphabet's characters by two ranges, and the spare bits by the last digit. Assumes nothing.
+-- The alphabet's characters by two ranges, and the spare bits by the last digit.
 use Prim.Native.Nat.{ℕ, zero, suc, _+_, _-_, _*_, _%_, _^_, _≤_, _<_}
 use mathlib.Core.Path.{_≡_, refl, sym, _∙_, ap}
 use mathlib.Core.Bool.{Bool, true, false, cond, _&&_, and-false}

@@ -1,4 +1,4 @@
--- Numbers whose digits are worked on all at once: masks, sums and multiples by digit, and neighbours joined. Assumes nothing.
+-- Numbers whose digits are worked on all at once: masks, sums and multiples by digit, and neighbours joined.
 use Prim.Native.Nat.{ℕ, zero, suc, _+_, _-_, _*_, _/_, _%_, _^_, _≤_, _<_}
 use mathlib.Core.Path.{_≡_, refl, sym, _∙_, ap, ap₂}
 use mathlib.Core.Bool.{Bool, true, not, _&&_, _||_}

@@ -1,3 +1,3 @@
--- Laws of the reader: tests by character, and eight characters at once. Assumes nothing.
+-- Laws of the reader: tests by character, and eight characters at once.
 pub mod Characters
 pub mod Lanes

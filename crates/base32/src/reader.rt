@@ -9,7 +9,7 @@ ghost use Rattle.iscc.specs.Answer.{areaAfter};
 ghost use Rattle.iscc.specs.Alphabet.{digitIn, isDigit};
 ghost use Rattle.iscc.specs.Base32.{base32, readBase32};
 ghost use Rattle.iscc.specs.Digits.{digits, value, Below, allBelow, byteCount, spareCount};
-ghost use Rattle.iscc.specs.Forms.{writtenAs};
+ghost use Rattle.iscc.specs.Representation.{writtenAs};
 ghost use Rattle.iscc.specs.Lists.{firstNot};
 use crate::writer;
 use iscc::refusal::Refusal;

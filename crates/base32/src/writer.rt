@@ -7,7 +7,7 @@ ghost use Rattle.iscc.specs.Answer.{areaAfter};
 ghost use Rattle.iscc.specs.Alphabet.{charIn, encode};
 ghost use Rattle.iscc.specs.Base32.{base32, writeBase32};
 ghost use Rattle.iscc.specs.Digits.{digits, value, digitCount};
-ghost use Rattle.iscc.specs.Forms.{writtenAs};
+ghost use Rattle.iscc.specs.Representation.{writtenAs};
 use iscc::refusal::Refusal;
 use iscc::tables;
 use iscc::written::Written;

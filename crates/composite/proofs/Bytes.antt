@@ -13,7 +13,7 @@ use Rattle.iscc.specs.Header.{headerBytes}
 use Rattle.iscc.specs.Permitted.{Set, setOf, unitCount}
 use Rattle.iscc.specs.Meaning.{composite, Sized, Permitted}
 use Rattle.iscc.specs.Item.{itemBytes, itemOf}
-use Rattle.iscc.specs.Forms.{writtenAs}
+use Rattle.iscc.specs.Representation.{writtenAs}
 use Rattle.iscc.specs.declared.written.Written.{Written}
 use Rattle.iscc.specs.declared.written.Written.the-variants.{Length, Refused}
 use Rattle.iscc.proofs.Lists.{all-at}

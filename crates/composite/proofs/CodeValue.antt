@@ -11,13 +11,13 @@ use Rattle.iscc.specs.Lists.{zeroFilled}
 use Rattle.iscc.specs.Header.{headerBytes}
 use Rattle.iscc.specs.Permitted.{ISCC, number}
 use Rattle.iscc.specs.Items.{readItems}
-use Rattle.iscc.specs.Forms.{writtenAs, codeAs, codeReadAs}
+use Rattle.iscc.specs.Representation.{writtenAs, codeAs, codeReadAs}
 use Rattle.iscc.specs.declared.code.Code.{Code}
 use Rattle.iscc.specs.declared.code.CodeRead.{CodeRead}
 use Rattle.iscc.specs.declared.code.CodeAnswer.the-variants as answers
 use Rattle.iscc.specs.declared.written.Written.the-variants as written
 use Rattle.iscc.proofs.Codes.{zero-filled, code-is, no-code, code-front}
-use Rattle.iscc.proofs.Lent.{too-short, answers-same}
+use Rattle.iscc.proofs.Filling.{too-short, answers-same}
 use Rattle.header.proofs.Short.{short-bytes}
 use Rattle.units.specs.declared.summary.Summary.{Summary}
 use Rattle.units.specs.Reading.{refusedIndex}

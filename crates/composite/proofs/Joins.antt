@@ -1,4 +1,4 @@
--- What a list's verdict says of the bytes that are written. Assumes nothing.
+-- What a list's verdict says of the bytes that are written.
 use Prim.Native.Nat.{ℕ, _≤_, _<_}
 use mathlib.Core.Path.{_≡_, refl, sym, _∙_, ap, subst, subst⁻¹}
 use mathlib.Core.Bool.{Bool, true, false, cond}

@@ -10,12 +10,12 @@ use lib.Seq.{getD-take}
 use lib.Dec.{eqb, lit<}
 use borrow.Author.Tests.{eqb-true, eq-eqb, ne-eqb}
 use Rattle.iscc.specs.Lists.{All, every, pairwise}
-use Rattle.iscc.specs.Permitted.{META, SEMANTIC, CONTENT, ID, number, Set, weight, setOf, setNumber, unitTypes, unitCount}
+use Rattle.iscc.specs.Permitted.{META, SEMANTIC, CONTENT, ID, number, Set, weight, setOf, setLengthNumber, unitTypes, unitCount}
 use Rattle.iscc.specs.Permitted as permitted
 use Rattle.iscc.specs.Meaning.{Meaning, Sized, Permitted, PermittedComposite}
 use Rattle.iscc.specs.Item.{Item}
 use Rattle.iscc.specs.Items.{hasSubtype, sharedSubtype, bodyIn, subtypeIn, isIn, bytesIn, has, setIn, bodiesIn, subtypeOf}
-use Rattle.iscc.specs.Forms.{mainTypeAs, unitSetAs}
+use Rattle.iscc.specs.Representation.{mainTypeAs, unitSetAs}
 use Rattle.iscc.specs.declared.main_type.MainType.{MainType}
 use Rattle.iscc.specs.declared.tables.UnitSet.{UnitSet}
 use Rattle.iscc.proofs.Booleans.{both-true}
@@ -66,10 +66,10 @@ subtype-of is e =
 
 -- ---- the bodies
 
--- a body of eight bytes that is there stands at its place
-placed-at : (bs : List ℕ) (o : Option (List ℕ)) (at : ℕ) → isIn o ≡ true → length (bytesIn o) ≡ 8 → BodyAt bs o at → (at + 8 ≤ length bs) × (take 8 (drop at bs) ≡ bytesIn o)
-placed-at bs none at h e p = absurd (false≢true h)
-placed-at bs (some body) at h e p = (omega (arith, p .1), ap (λ (k : ℕ). take k (drop at bs)) (sym e) ∙ p .2)
+-- a body of eight bytes that is there stands at its offset
+body-found : (bs : List ℕ) (o : Option (List ℕ)) (at : ℕ) → isIn o ≡ true → length (bytesIn o) ≡ 8 → BodyAt bs o at → (at + 8 ≤ length bs) × (take 8 (drop at bs) ≡ bytesIn o)
+body-found bs none at h e p = absurd (false≢true h)
+body-found bs (some body) at h e p = (omega (arith, p .1), ap (λ (k : ℕ). take k (drop at bs)) (sym e) ∙ p .2)
 
 -- the table's units are the set's
 pub unit-at : (u : Set) (i : ℕ) → i < unitCount u → getD (unitSetAs u .units) i (record { number = 0 }) ≡ mainTypeAs (getD (unitTypes u) i ID)
@@ -93,10 +93,10 @@ not-not false = refl
 subtype-by : (a b c d : Bool) (x y : ℕ) → a ≡ b → x ≡ y → c ≡ d → cond a x (cond c 6 5) ≡ cond b y (cond d 6 5)
 subtype-by a b c d x y p q r = rw (p, q, r)
 
--- what `set_number` returns: by the offsets of the bodies, and by what each adds
+-- what `set_length_number` returns: by the offsets of the bodies, and by what each adds
 pub set-number-is : (offsets : List ℕ) (a b c x y z : ℕ) → a ≡ getD offsets (permitted.number META) 0 → (x ≡ weight 4 (not (eqb a 0))) × (x ≤ 4)
     → b ≡ getD offsets (permitted.number SEMANTIC) 0 → (y ≡ weight 2 (not (eqb b 0))) × (y ≤ 2) → c ≡ getD offsets (permitted.number CONTENT) 0
-    → (z ≡ weight 1 (not (eqb c 0))) × (z ≤ 1) → (x + y + z ≡ setNumber (setOfOffsets offsets)) × (x + y + z ≤ 7)
+    → (z ≡ weight 1 (not (eqb c 0))) × (z ≤ 1) → (x + y + z ≡ setLengthNumber (setOfOffsets offsets)) × (x + y + z ≤ 7)
 set-number-is offsets a b c x y z ea ex eb ey ec ez = (rw (← ea, ← eb, ← ec, ex .0, ey .0, ez .0), omega (arith, ex .1, ey .1, ez .1))
 
 -- what `subtype_of` returns
@@ -136,14 +136,14 @@ module _ (bs : List ℕ) (l : Summary) (m : Meaning) (k : Makes bs l m) where
   set-at : setOfOffsets (l .offsets) ≡ set
   set-at = rw (seen META, seen SEMANTIC, seen CONTENT)
 
-  units-are : unitSetAs (setOf (setNumber (setOfOffsets (l .offsets)))) ≡ unitSetAs set
-  units-are = ap (λ (s : Set). unitSetAs (setOf (setNumber s))) set-at ∙ ap unitSetAs (set-back set)
+  units-are : unitSetAs (setOf (setLengthNumber (setOfOffsets (l .offsets)))) ≡ unitSetAs set
+  units-are = ap (λ (s : Set). unitSetAs (setOf (setLengthNumber s))) set-at ∙ ap unitSetAs (set-back set)
 
   in-list : All (λ t. (number t < 5) × (has t is ≡ true)) (unitTypes set)
   in-list =
       types-all (λ t. (number t < 5) × (has t is ≡ true)) set (λ h. (lit< tt, h)) (λ h. (lit< tt, h)) (λ h. (lit< tt, h)) (lit< tt, of .dataIn) (lit< tt, of .instanceIn)
 
-  -- the i-th unit's body stands at the place of its main type
+  -- the i-th unit's body stands at the offset of its main type
   module _ (i : ℕ) (h : i < unitCount set) where
     abbrev type : permitted.MainType
     type = getD (unitTypes set) i ID
@@ -155,7 +155,7 @@ module _ (bs : List ℕ) (l : Summary) (m : Meaning) (k : Makes bs l m) where
     body-at =
         let b : getD bodies i [] ≡ bytesIn (bodyIn type is) = map-at (λ t. bytesIn (bodyIn t is)) (unitTypes set) i ID [] (omega (arith, types-count set)) in
         let z : length (getD bodies i []) ≡ 8 = all-at (Sized 8) bodies i [] (permitted-parts .sized) (omega (arith, permitted-parts .count)) .0 in
-        let w = placed-at bs (bodyIn type is) (getD (l .offsets) (number type) 0) (type-in .1) (ap length (sym b) ∙ z) (k .summary .offsets type) in
+        let w = body-found bs (bodyIn type is) (getD (l .offsets) (number type) 0) (type-in .1) (ap length (sym b) ∙ z) (k .summary .offsets type) in
         (w .0, w .1 ∙ sym b)
 
   pub subtype-made : summarySubtype l ≡ subtypeOf is
@@ -164,7 +164,7 @@ module _ (bs : List ℕ) (l : Summary) (m : Meaning) (k : Makes bs l m) where
       subtype-by _ _ _ _ _ _ (any-is bs is l (k .summary)) (k .summary .subtype) (seen META) ∙ sym (subtype-of is (of .shared))
 
   -- what `rows_of` asks, and what it makes
-  module _ (u : UnitSet) (e : u ≡ unitSetAs (setOf (setNumber (setOfOffsets (l .offsets))))) where
+  module _ (u : UnitSet) (e : u ≡ unitSetAs (setOf (setLengthNumber (setOfOffsets (l .offsets))))) where
     set-is : u ≡ unitSetAs set
     set-is = e ∙ units-are
 
@@ -181,10 +181,10 @@ module _ (bs : List ℕ) (l : Summary) (m : Meaning) (k : Makes bs l m) where
         subst⁻¹ (There bs (l .offsets)) (unit-there i g) (omega (arith, type-in i g .0), body-at i g .0)
 
     pub list-made : (r : List (List ℕ)) → r ≡ filledBodies (λ i. take 8 (drop (offsetIn (l .offsets) (u .units) i) bs)) (u .count) 5
-        → parts (setNumber (setOfOffsets (l .offsets))) (summarySubtype l) r ≡ compositeAs m
+        → parts (setLengthNumber (setOfOffsets (l .offsets))) (summarySubtype l) r ≡ compositeAs m
     unfolding compositeAs
     list-made r q =
         let w : r ≡ filledBodies (λ i. getD bodies i []) (unitCount set) 5 =
         q ∙ ap (λ (n : ℕ). filledBodies (λ i. take 8 (drop (offsetIn (l .offsets) (u .units) i) bs)) n 5) count-there
         ∙ filled-same _ _ (unitCount set) 5 (λ i h. ap (λ (x : MainType). take 8 (drop (getD (l .offsets) (x .number) 0) bs)) (unit-there i h) ∙ body-at i h .1) in
-        ap (λ (n : ℕ). parts n (summarySubtype l) r) (ap setNumber set-at) ∙ rw (subtype-made, w) (ap compositeAs (of .meaning))
+        ap (λ (n : ℕ). parts n (summarySubtype l) r) (ap setLengthNumber set-at) ∙ rw (subtype-made, w) (ap compositeAs (of .meaning))

@@ -12,12 +12,12 @@ use Rattle.iscc.specs.Refusals.{Refusal, notPermitted}
 use Rattle.iscc.specs.Answer.{Answer, accept, refuse, _>>=_, areaAfter}
 use Rattle.iscc.specs.Digits.{Below}
 use Rattle.iscc.specs.Header.{headerBytes}
-use Rattle.iscc.specs.Permitted.{MainType, ISCC, ID, number, typeOf, mainTypeOf, isUnit, Set, setOf, setNumber, unitTypes, unitCount, compositeSubtype, row, permits, bodyBytes}
+use Rattle.iscc.specs.Permitted.{MainType, ISCC, ID, number, typeOf, mainTypeOf, isUnit, Set, setOf, setLengthNumber, unitTypes, unitCount, compositeSubtype, row, permits, bodyBytes}
 use Rattle.iscc.specs.Meaning.{composite, Permitted}
 use Rattle.iscc.specs.Item.{Item, itemBytes, readOne, unitBytes, writeUnit, compositeOf, meaningAs, meaningOf}
 use Rattle.iscc.specs.Lists.{All}
 use Rattle.iscc.specs.Items.{unit64, unitWith, unitsOf, itemsBytes, splitBytes}
-use Rattle.iscc.specs.Forms.{mainTypeAs, unitSetAs}
+use Rattle.iscc.specs.Representation.{mainTypeAs, unitSetAs}
 use Rattle.iscc.specs.declared.main_type.MainType as code
 use Rattle.iscc.specs.declared.tables.UnitSet.{UnitSet}
 use Rattle.iscc.proofs.Header.{length-short}
@@ -29,7 +29,7 @@ use Rattle.iscc.proofs.Items.{sameType-eq}
 use Rattle.iscc.proofs.Split.{units, units-count, one-read}
 use Rattle.iscc.proofs.Meaning.{unit-means, meant-item}
 use Rattle.units.specs.Summary.{isSubtyped}
-use Rattle.unit.specs.Forms.{headerOf}
+use Rattle.unit.specs.Representation.{headerWith}
 use Rattle.unit.specs.declared.reader.Unit.{Unit}
 use Rattle.unit.proofs.ExactlyOne.{OneIs}
 use Rattle.unit.proofs.Table.{seven}
@@ -80,11 +80,11 @@ module _ (m : code.MainType) (s : ℕ) (body d : List ℕ) (h : m .number < 5) (
   unit-length =
       let p = small (typeOf (m .number)) own 0 1 (there .permitted) in
       let k : number (typeOf (m .number)) ≡ m .number = number-type (m .number) (omega arith) in
-      let e : length (headerBytes (record { mainType = number (typeOf (m .number)); subtype = own; version = 0; lengthNo = 1 })) ≡ 2 =
-      length-short (record { mainType = number (typeOf (m .number)); subtype = own; version = 0; lengthNo = 1 }) (omega arith) (omega (arith, p .subtype)) (omega arith) (omega arith) in
-      length-append (headerBytes (record { mainType = number (typeOf (m .number)); subtype = own; version = 0; lengthNo = 1 })) body ∙ omega (arith, e, l)
+      let e : length (headerBytes (record { mainType = number (typeOf (m .number)); subtype = own; version = 0; lengthNumber = 1 })) ≡ 2 =
+      length-short (record { mainType = number (typeOf (m .number)); subtype = own; version = 0; lengthNumber = 1 }) (omega arith) (omega (arith, p .subtype)) (omega arith) (omega arith) in
+      length-append (headerBytes (record { mainType = number (typeOf (m .number)); subtype = own; version = 0; lengthNumber = 1 })) body ∙ omega (arith, e, l)
 
-  bytes-are : unitBytes (headerOf m own 0 1) body ≡ accept (itemBytes (unitOf (m .number) s body))
+  bytes-are : unitBytes (headerWith m own 0 1) body ≡ accept (itemBytes (unitOf (m .number) s body))
   unfolding unitBytes itemBytes
   bytes-are =
       let k : number (typeOf (m .number)) ≡ m .number = number-type (m .number) (omega arith) in
@@ -92,9 +92,9 @@ module _ (m : code.MainType) (s : ℕ) (body d : List ℕ) (h : m .number < 5) (
       rw (named, there .single, there .permitted, there .eight, l, t, k)
 
   -- what the unit writer leaves of a part that holds the unit
-  pub unit-written : 10 ≤ length d → areaAfter (writeUnit (headerOf m own 0 1) body (length d)) d ≡ itemBytes (unitOf (m .number) s body) ++ drop 10 d
+  pub unit-written : 10 ≤ length d → areaAfter (writeUnit (headerWith m own 0 1) body (length d)) d ≡ itemBytes (unitOf (m .number) s body) ++ drop 10 d
   unit-written g =
-      let w : writeUnit (headerOf m own 0 1) body (length d) ≡ accept (itemBytes (unitOf (m .number) s body)) =
+      let w : writeUnit (headerWith m own 0 1) body (length d) ≡ accept (itemBytes (unitOf (m .number) s body)) =
       rw (bytes-are, unit-length, le-leb 10 (length d) g) in
       ap (λ (r : Answer (List ℕ)). areaAfter r d) w ∙ ap (λ (k : ℕ). itemBytes (unitOf (m .number) s body) ++ drop k d) unit-length
 
@@ -113,15 +113,15 @@ module _ (n s : ℕ) (r : Bool) (e : r ≡ eqb n 1) where
 -- a unit is put at an offset of an area
 pub unit-put : (m : code.MainType) (s k : ℕ) (body out e : List ℕ) (at : ℕ) → k ≡ cond (isSubtyped (m .number)) s 0 → m .number < 5 → (isSubtyped (m .number) ≡ true → s ≤ 4) → length body ≡ 8
     → at + 10 ≤ length out
-    → e ≡ areaAfter (writeUnit (headerOf m k 0 1) body (length (take (length out - at) (drop at out)))) (take (length out - at) (drop at out))
+    → e ≡ areaAfter (writeUnit (headerWith m k 0 1) body (length (take (length out - at) (drop at out)))) (take (length out - at) (drop at out))
     → take at out ++ (e ++ drop (length out - at) (drop at out)) ≡ take at out ++ (itemBytes (unitOf (m .number) s body) ++ drop (at + 10) out)
 unit-put m s k body out e at ek h f l g ee =
     let d : List ℕ = drop at out in
     let u : List ℕ = itemBytes (unitOf (m .number) s body) in
     let n : length d ≡ length out - at = length-drop at out in
     let e′ : e ≡ u ++ drop 10 d =
-    ee ∙ ap (λ (x : List ℕ). areaAfter (writeUnit (headerOf m k 0 1) body (length x)) x) (rest-is out at)
-    ∙ ap (λ (x : ℕ). areaAfter (writeUnit (headerOf m x 0 1) body (length d)) d) ek
+    ee ∙ ap (λ (x : List ℕ). areaAfter (writeUnit (headerWith m k 0 1) body (length x)) x) (rest-is out at)
+    ∙ ap (λ (x : ℕ). areaAfter (writeUnit (headerWith m x 0 1) body (length d)) d) ek
     ∙ unit-written m s body d h f l (omega arith) in
     let z : drop (length out - at) d ≡ [] = drop-of-length-le d {i = length out - at} (omega arith) in
     ap₂ (λ (x y : List ℕ). take at out ++ (x ++ y)) e′ z ∙ ap (λ (x : List ℕ). take at out ++ x) (append-nil (u ++ drop 10 d) ∙ ap (λ (x : List ℕ). u ++ x) (drop-drop 10 at out))
@@ -134,7 +134,7 @@ Ok s m = (m .number < 5) × (isSubtyped (m .number) ≡ true → s ≤ 4)
 no : (s : ℕ) → false ≡ true → s ≤ 4
 no s e = absurd (false≢true e)
 
-all-ok : (s : ℕ) (u : Set) → compositeSubtype (setNumber u) s ≡ true → All (λ t. Ok s (mainTypeAs t)) (unitTypes u)
+all-ok : (s : ℕ) (u : Set) → compositeSubtype (setLengthNumber u) s ≡ true → All (λ t. Ok s (mainTypeAs t)) (unitTypes u)
 all-ok s u e =
     types-all (λ t. Ok s (mainTypeAs t)) u (λ h. (lit< tt, no s)) (λ h. (lit< tt, λ _. subtype-low s u e (rw h)))
     (λ h. (lit< tt, λ _. subtype-low s u e (rw h (or-true (u .semantic))))) (lit< tt, no s) (lit< tt, no s)
@@ -208,7 +208,7 @@ module _ (s v : ℕ) (u : Set) (bodies : List (List ℕ)) (p : Permitted (compos
   unit-is : (i : ℕ) → i < unitCount u → unitAt (compositeAs (composite s v u bodies)) i ≡ getD us i (unit64 ID 0 [])
   unfolding unitAt compositeAs
   unit-is i h =
-      let n : getD (unitSetAs (setOf (setNumber u)) .units) i (record { number = 0 }) ≡ mainTypeAs (getD (unitTypes u) i ID) = rw (set-back u) (unit-at u i h) in
+      let n : getD (unitSetAs (setOf (setLengthNumber u)) .units) i (record { number = 0 }) ≡ mainTypeAs (getD (unitTypes u) i ID) = rw (set-back u) (unit-at u i h) in
       let r : getD (filledBodies (λ j. getD bodies j []) (unitCount u) 5) i [] ≡ getD bodies i [] = filled-at (λ j. getD bodies j []) (unitCount u) 5 i h (omega (arith, count-most u)) in
       let t : typeOf (number (getD (unitTypes u) i ID)) ≡ getD (unitTypes u) i ID = type-number (getD (unitTypes u) i ID) in
       rw (n, r, t) (sym (zip-at (unitWith s) (unitTypes u) bodies i ID [] _ (omega (arith, types-count u)) (omega (arith, p .count))))
@@ -224,13 +224,13 @@ module _ (s v : ℕ) (u : Set) (bodies : List (List ℕ)) (p : Permitted (compos
   split-laid : itemsBytes us ≡ splitInto value
   unfolding splitInto compositeAs
   split-laid =
-      let n : length (map itemBytes us) ≡ unitCount (setOf (setNumber u)) = length-map us itemBytes ∙ us-count ∙ ap unitCount (sym (set-back u)) in
+      let n : length (map itemBytes us) ≡ unitCount (setOf (setLengthNumber u)) = length-map us itemBytes ∙ us-count ∙ ap unitCount (sym (set-back u)) in
       sym (items-flat us) ∙ sym (laid-flat (λ i. itemBytes (unitAt value i)) (map itemBytes us) bytes-is) ∙ ap (laid (λ i. itemBytes (unitAt value i))) n
 
 -- the bodies behind a composite's header
-rows-in : (s v : ℕ) (u : Set) (bs : List ℕ) → compositeAs (compositeOf s v u bs) ≡ parts (setNumber u) s (filledBodies (λ i. take 8 (drop (i * 8) bs)) (unitCount u) 5)
+rows-in : (s v : ℕ) (u : Set) (bs : List ℕ) → compositeAs (compositeOf s v u bs) ≡ parts (setLengthNumber u) s (filledBodies (λ i. take 8 (drop (i * 8) bs)) (unitCount u) 5)
 unfolding compositeAs compositeOf
-rows-in s v u bs = ap (parts (setNumber u) s) (filled-same _ _ (unitCount u) 5 (λ i h. cut-at 8 (unitCount u) bs i h))
+rows-in s v u bs = ap (parts (setLengthNumber u) s) (filled-same _ _ (unitCount u) 5 (λ i h. cut-at 8 (unitCount u) bs i h))
 
 -- ---- split
 
@@ -244,12 +244,12 @@ other-type s v l body =
 abbrev rowed : ℕ → ℕ → List ℕ → Composite
 rowed s l body = parts l s (filledBodies (λ i. take 8 (drop (i * 8) body)) (unitCount (setOf l)) 5)
 
-module _ (s v l : ℕ) (body : List ℕ) (p : PermittedItem (record { mainType = ISCC; subtype = s; version = v; lengthNo = l; body = body })) where
+module _ (s v l : ℕ) (body : List ℕ) (p : PermittedItem (record { mainType = ISCC; subtype = s; version = v; lengthNumber = l; body = body })) where
   abbrev item : Item
-  item = record { mainType = ISCC; subtype = s; version = v; lengthNo = l; body = body }
+  item = record { mainType = ISCC; subtype = s; version = v; lengthNumber = l; body = body }
 
   small-number : l ≤ 7
-  small-number = small ISCC s v l (p .header) .lengthNo
+  small-number = small ISCC s v l (p .header) .lengthNumber
 
   as-rows : compositeAs (compositeOf s v (setOf l) body) ≡ rowed s l body
   as-rows =
@@ -275,7 +275,7 @@ pub split-unread : (bs : List ℕ) (q : Refusal) → readOne bs ≡ refuse q →
 unfolding splitBytes
 split-unread bs q e = rw e
 
-as-composite : (i : Item) (s l : ℕ) → i .mainType ≡ ISCC → i .subtype ≡ s → i .lengthNo ≡ l → i ≡ record { mainType = ISCC; subtype = s; version = i .version; lengthNo = l; body = i .body }
+as-composite : (i : Item) (s l : ℕ) → i .mainType ≡ ISCC → i .subtype ≡ s → i .lengthNumber ≡ l → i ≡ record { mainType = ISCC; subtype = s; version = i .version; lengthNumber = l; body = i .body }
 as-composite i s l a b c = rw (← a, ← b, ← c)
 
 module _ (bs : List ℕ) (u : Unit) (w : OneIs bs u) where
@@ -283,41 +283,41 @@ module _ (bs : List ℕ) (u : Unit) (w : OneIs bs u) where
   unfolding splitBytes
   split-other e f =
       let i : Item = w .item in
-      rw (w .is) (rw (other-type (i .subtype) (i .version) (i .lengthNo) (i .body) (i .mainType) (ap (λ (n : ℕ). eqb n 5) (w .mainType) ∙ sym e ∙ f)))
+      rw (w .is) (rw (other-type (i .subtype) (i .version) (i .lengthNumber) (i .body) (i .mainType) (ap (λ (n : ℕ). eqb n 5) (w .mainType) ∙ sym e ∙ f)))
 
   module _ (five : u .«main_type» .number ≡ 5) where
     type-is : w .item .mainType ≡ ISCC
     type-is = sameType-eq (w .item .mainType) ISCC (eq-eqb (number (w .item .mainType)) 5 (w .mainType ∙ five))
 
-    pub code-room : 2 + unitCount (setOf (u .length)) * 8 ≤ length bs
+    pub code-room : 2 + unitCount (setOf (u .«length_number»)) * 8 ≤ length bs
     unfolding bodyBytes
-    code-room = omega (arith, rw (type-is, w .lengthNo) at (w .whole))
+    code-room = omega (arith, rw (type-is, w .lengthNumber) at (w .whole))
 
     abbrev splitRows : Composite
-    splitRows = parts (u .length) (u .subtype) (filledBodies (λ i. take 8 (drop (2 + i * 8) bs)) (unitCount (setOf (u .length))) 5)
+    splitRows = parts (u .«length_number») (u .subtype) (filledBodies (λ i. take 8 (drop (2 + i * 8) bs)) (unitCount (setOf (u .«length_number»))) 5)
 
-    same-rows : rowed (u .subtype) (u .length) (w .item .body) ≡ splitRows
+    same-rows : rowed (u .subtype) (u .«length_number») (w .item .body) ≡ splitRows
     same-rows =
         let e : w .item .body ≡ drop 2 bs = w .body ∙ ap (λ (k : ℕ). drop k bs) (w .start) in
-        ap (parts (u .length) (u .subtype))
-        (filled-same _ _ (unitCount (setOf (u .length))) 5 (λ i h. ap (take 8) (ap (drop (i * 8)) e ∙ drop-drop (i * 8) 2 bs)))
+        ap (parts (u .«length_number») (u .subtype))
+        (filled-same _ _ (unitCount (setOf (u .«length_number»))) 5 (λ i h. ap (take 8) (ap (drop (i * 8)) e ∙ drop-drop (i * 8) 2 bs)))
 
     module _ (k : Below 256 bs) where
       abbrev whole : Item
-      whole = record { mainType = ISCC; subtype = u .subtype; version = w .item .version; lengthNo = u .length; body = w .item .body }
+      whole = record { mainType = ISCC; subtype = u .subtype; version = w .item .version; lengthNumber = u .«length_number»; body = w .item .body }
 
       whole-is : w .item ≡ whole
-      whole-is = as-composite (w .item) (u .subtype) (u .length) type-is (w .subtype) (w .lengthNo)
+      whole-is = as-composite (w .item) (u .subtype) (u .«length_number») type-is (w .subtype) (w .lengthNumber)
 
       permitted-is : PermittedItem whole
       permitted-is = subst PermittedItem whole-is (one-read bs (w .item) k (w .is) .0)
 
       pub split-sound : (c : Composite) → c ≡ splitRows → Sound c
-      split-sound c e = subst⁻¹ Sound (e ∙ sym same-rows) (rowed-sound (u .subtype) (w .item .version) (u .length) (w .item .body) permitted-is)
+      split-sound c e = subst⁻¹ Sound (e ∙ sym same-rows) (rowed-sound (u .subtype) (w .item .version) (u .«length_number») (w .item .body) permitted-is)
 
       pub split-whole : (c : Composite) → c ≡ splitRows → splitBytes bs ≡ accept (splitInto c)
       unfolding splitBytes
       split-whole c e =
           rw (w .is) (ap (λ (i : Item). unitsOf (meaningOf i) >>= λ is. accept (itemsBytes is)) whole-is)
-          ∙ rowed-units (u .subtype) (w .item .version) (u .length) (w .item .body) permitted-is
+          ∙ rowed-units (u .subtype) (w .item .version) (u .«length_number») (w .item .body) permitted-is
           ∙ ap (λ (x : Composite). accept (splitInto x)) (same-rows ∙ sym e)

@@ -1,4 +1,4 @@
--- The one code of a list: of one item its own bytes, of more the composite's, which fit 42. Assumes nothing.
+-- The one code of a list: of one item its own bytes, of more the composite's, which fit 42.
 use Prim.Native.Nat.{ℕ, _≤_, _<_}
 use mathlib.Core.Path.{_≡_, refl, sym, _∙_, ap}
 use mathlib.Core.List.{List, [], _∷_, append-nil}

@@ -1,11 +1,11 @@
--- A composite by value, and the meaning that it has. Assumes nothing.
+-- A composite by value, and the meaning that it has.
 use Prim.Native.Nat.{ℕ, zero, suc}
 use mathlib.Core.Path.{_≡_}
 use mathlib.Core.Bool.{cond}
 use mathlib.Core.List.{List, [], _∷_, _++_}
 use lib.ListN.{getD, replicate}
 use Rattle.iscc.specs.Answer.{accept}
-use Rattle.iscc.specs.Permitted.{META, SEMANTIC, CONTENT, Set, setNumber, unitCount}
+use Rattle.iscc.specs.Permitted.{META, SEMANTIC, CONTENT, Set, setLengthNumber, unitCount}
 use Rattle.iscc.specs.Meaning.{Meaning, unit, composite, Permitted}
 use Rattle.iscc.specs.Item.{Item}
 use Rattle.iscc.specs.Items.{compositeFrom}
@@ -30,7 +30,7 @@ laid f (suc n) = laid f n ++ f n
 
 -- a composite's meaning by value; a unit has none
 unfoldable pub compositeAs : Meaning → Composite
-compositeAs (composite s v units bodies) = parts (setNumber units) s (filledBodies (λ i. getD bodies i []) (unitCount units) 5)
+compositeAs (composite s v units bodies) = parts (setLengthNumber units) s (filledBodies (λ i. getD bodies i []) (unitCount units) 5)
 compositeAs (unit m s v body) = parts 0 0 []
 
 -- ---- from a list's summary

@@ -1,4 +1,4 @@
--- The one code that items laid end to end mean. Assumes nothing.
+-- The one code that items laid end to end mean.
 use Prim.Native.Nat.{ℕ}
 use mathlib.Core.List.{List}
 use Rattle.iscc.specs.Answer.{Answer, accept, refuse, _>>=_}

@@ -1,4 +1,4 @@
--- A composite by value, written: as its own bytes, or as its units end to end. Assumes nothing.
+-- A composite by value, written: as its own bytes, or as its units end to end.
 use Prim.Native.Nat.{ℕ, _≤_, _<_}
 use mathlib.Core.Path.{_≡_}
 use mathlib.Core.Bool.{true, cond}
@@ -9,7 +9,7 @@ use Rattle.iscc.specs.Header.{Header, headerBytes}
 use Rattle.iscc.specs.Permitted.{ISCC, number, typeOf, setOf, unitCount, compositeSubtype}
 use Rattle.iscc.specs.Item.{Item, itemBytes}
 use Rattle.iscc.specs.Items.{unit64}
-use Rattle.iscc.specs.Forms.{unitSetAs}
+use Rattle.iscc.specs.Representation.{unitSetAs}
 use Rattle.units.specs.Summary.{isSubtyped}
 use Rattle.composite.specs.declared.bodies.Composite.{Composite}
 use Rattle.composite.specs.Bodies.{laid}
@@ -21,7 +21,7 @@ pub record Sound (c : Composite) : Type 0 where
   pub bodies : (i : ℕ) → i < 5 → lists.length (getD (c .bodies) i []) ≡ 8
 
 abbrev pub compositeHeader : Composite → Header
-compositeHeader c = record { mainType = number ISCC; subtype = c .subtype; version = 0; lengthNo = c .«length_number» }
+compositeHeader c = record { mainType = number ISCC; subtype = c .subtype; version = 0; lengthNumber = c .«length_number» }
 
 unfoldable pub compositeBytes : Composite → List ℕ
 compositeBytes c = headerBytes (compositeHeader c) ++ laid (λ i. getD (c .bodies) i []) (unitCount (setOf (c .«length_number»)))

@@ -1,4 +1,4 @@
--- The composite of a list that was read. Assumes nothing.
+-- The composite of a list that was read.
 use Prim.Native.Nat.{ℕ}
 use mathlib.Core.Path.{_≡_}
 use mathlib.Core.Bool.{cond}

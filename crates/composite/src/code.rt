@@ -3,7 +3,7 @@ ghost use mathlib.Core.Path.{_≡_};
 ghost use Prim.Native.Nat.{_≤_};
 ghost use lib.ListN.{length};
 ghost use Rattle.iscc.specs.Answer.{refuse};
-ghost use Rattle.iscc.specs.Forms.{codeAs, codeReadAs};
+ghost use Rattle.iscc.specs.Representation.{codeAs, codeReadAs};
 ghost use Rattle.iscc.specs.declared.code.CodeAnswer.the-variants as answers;
 ghost use Rattle.composite.specs.Joined.{Listed, composedBytes};
 ghost use Rattle.composite.specs.Canonical.{detailOf, canonicalBytes};

@@ -4,7 +4,7 @@ ghost use mathlib.Core.Bool.{cond, not};
 ghost use Prim.Native.Nat.{ℕ, _+_, _*_, _≤_, _<_};
 ghost use lib.ListN.{length, take, drop, getD};
 ghost use lib.Dec.{eqb};
-ghost use Rattle.iscc.specs.Permitted.{weight, setNumber, setOf, unitCount};
+ghost use Rattle.iscc.specs.Permitted.{weight, setLengthNumber, setOf, unitCount};
 ghost use Rattle.iscc.specs.Meaning.{Meaning};
 ghost use Rattle.units.specs.Summary.{anySubtyped};
 ghost use Rattle.composite.specs.Bodies.{filledBodies, parts, offsetIn, setOfOffsets, summarySubtype, Makes, compositeAs};
@@ -27,8 +27,8 @@ fn weight_of(full: usize, offset: usize) -> usize
 }
 
 // The length number of the set of units that have a body.
-fn set_number(offsets: [usize; 7]) -> usize
-    ensures { λ r. ⌜ (r ≡ setNumber (setOfOffsets offsets)) × (r ≤ 7) ⌝ }
+fn set_length_number(offsets: [usize; 7]) -> usize
+    ensures { λ r. ⌜ (r ≡ setLengthNumber (setOfOffsets offsets)) × (r ≤ 7) ⌝ }
 {
     let meta = weight_of(4, summary::offset_of(offsets, MainType::META));
     let semantic = weight_of(2, summary::offset_of(offsets, MainType::SEMANTIC));
@@ -74,7 +74,7 @@ pub(crate) fn from_list(bytes: &[u8], list: Summary) -> Composite
     ensures { λ r. ⌜ ((m : Meaning) → Makes (now (bytes .entry)) list m → r ≡ compositeAs m) ⌝ }
 {
     let offsets = list.offsets;
-    let length_number = set_number(offsets);
+    let length_number = set_length_number(offsets);
     let set = tables::unit_set(length_number);
     let found = bodies_at(bytes, offsets, set);
     bodies::from_parts(length_number, subtype_of(list), found)

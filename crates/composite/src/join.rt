@@ -3,7 +3,7 @@ ghost use mathlib.Core.Path.{_≡_};
 ghost use lib.ListN.{length};
 ghost use Rattle.iscc.specs.Answer.{areaAfter, into};
 ghost use Rattle.iscc.specs.Items as items;
-ghost use Rattle.iscc.specs.Forms.{writtenAs};
+ghost use Rattle.iscc.specs.Representation.{writtenAs};
 ghost use Rattle.composite.specs.Joined.{Listed, composedBytes, singleRefusal};
 use crate::code;
 use iscc::code::CodeAnswer;

@@ -4,8 +4,8 @@ ghost use lib.ListN.{length};
 ghost use Rattle.iscc.specs.Answer.{areaAfter};
 ghost use Rattle.iscc.specs.Item.{readOne};
 ghost use Rattle.iscc.specs.Items as items;
-ghost use Rattle.iscc.specs.Forms.{writtenAs};
-ghost use Rattle.unit.specs.Forms.{oneReadAs};
+ghost use Rattle.iscc.specs.Representation.{writtenAs};
+ghost use Rattle.unit.specs.Representation.{oneReadAs};
 ghost use Rattle.unit.specs.declared.reader.UnitRead.the-variants as found;
 use crate::gather;
 use crate::writer;
@@ -25,7 +25,7 @@ fn split_item(bytes: &[u8], u: Unit, out: &mut [u8]) -> Written
     if !u.main_type.is(MainType::ISCC) {
         return Written::Refused(Refusal::NOT_PERMITTED);
     }
-    let c = gather::from_code(bytes, u.subtype, u.length as usize);
+    let c = gather::from_code(bytes, u.subtype, u.length_number as usize);
     writer::write_units(c, out)
 }
 

@@ -7,7 +7,7 @@ ghost use lib.ListN.{length, take, drop, getD};
 ghost use Rattle.iscc.specs.Answer.{accept, areaAfter, into};
 ghost use Rattle.iscc.specs.Permitted.{setOf, unitCount};
 ghost use Rattle.iscc.specs.Item.{itemBytes};
-ghost use Rattle.iscc.specs.Forms.{writtenAs, unitSetAs, codeAs};
+ghost use Rattle.iscc.specs.Representation.{writtenAs, unitSetAs, codeAs};
 ghost use Rattle.units.specs.Summary.{isSubtyped};
 ghost use Rattle.composite.specs.Bodies.{laid};
 ghost use Rattle.composite.specs.Code.{Sound, compositeBytes, unitOf, unitAt, splitInto};

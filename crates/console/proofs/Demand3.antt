@@ -14,8 +14,8 @@ use Rattle.iscc.specs.Base32.{base32}
 use Rattle.iscc.specs.Meaning.{Meaning, Permitted}
 use Rattle.iscc.specs.Item.{Item, itemBytes, itemOf}
 use Rattle.iscc.specs.Lists.{Reordered}
-use Rattle.iscc.specs.Doors.{scheme, codeOf, meaningOfText, textOf, intake, writtenText, strict}
-use Rattle.iscc.specs.Forms.{writtenAs, outcomeAs}
+use Rattle.iscc.specs.Doors.{scheme, itemsOfText, meaningOfText, textOf, intake, writtenText, strict}
+use Rattle.iscc.specs.Representation.{writtenAs, outcomeAs}
 use Rattle.iscc.proofs.Answer.{accepted, value-of, accept-inj, passed}
 use Rattle.iscc.proofs.Numbers.{number-0, outcome-length, intake-numbered, strict-numbered}
 use Rattle.iscc.proofs.Demand3.{intake-of, intake-means, written-of, strict-of, strict-means}
@@ -116,7 +116,7 @@ short′ m t a e f =
     let n : answerOf t a .length ≡ length (textOf m) = ap (λ (y : Answer (List ℕ)). outcomeAs (writtenAs y) .length) (x .answer) ∙ ap (λ (k : Meaning). length (textOf k)) (same-meaning t a m f x) in
     (d .0, omega (arith, n, d .1))
 
-any-order : (t u a : List ℕ) (is js : List Item) → codeOf t ≡ accept is → codeOf u ≡ accept js → Reordered is js → (answerOf t a ≡ answerOf u a) × (areaOf t a ≡ areaOf u a)
+any-order : (t u a : List ℕ) (is js : List Item) → itemsOfText t ≡ accept is → itemsOfText u ≡ accept js → Reordered is js → (answerOf t a ≡ answerOf u a) × (areaOf t a ≡ areaOf u a)
 any-order t u a is js e f r =
     let i : intake t (length a) ≡ intake u (length a) = demand3 .anyOrder t u is js (length a) e f r in
     (ap (λ (y : Answer (List ℕ)). outcomeAs (writtenAs y)) i, ap (λ (y : Answer (List ℕ)). areaAfter y a) i)

@@ -3,7 +3,7 @@ use mathlib.Core.Path.{_≡_, sym, _∙_, ap}
 use Rattle.iscc.specs.Answer.{Answer, numberOf}
 use Rattle.iscc.specs.Refusals.{Refusal}
 use Rattle.iscc.specs.Meaning.{Meaning}
-use Rattle.door.specs.Forms.{checkedNumber}
+use Rattle.door.specs.Representation.{checkedNumber}
 use Rattle.door.specs.declared.strict.Checked.{Checked}
 use Rattle.door.specs.declared.strict.Checked.the-variants.{Accepted, Refused}
 

@@ -6,10 +6,10 @@ use native.Mathlib.Omega.{arith}
 use Rattle.iscc.specs.Answer.{Answer, accept, refuse, numberOf}
 use Rattle.iscc.specs.Doors.{strict}
 use Rattle.iscc.specs.Distance.{distance, Distance}
-use Rattle.iscc.specs.Forms.{writtenAs, outcomeAs}
+use Rattle.iscc.specs.Representation.{writtenAs, outcomeAs}
 use Rattle.iscc.proofs.Numbers.{Numbered, number-table, number-0, outcome-number, outcome-length, intake-numbered, strict-numbered, distance-numbered, code-numbered, text-numbered, join-numbered, split-numbered}
-use Rattle.distance.specs.Forms.{measuredAs}
-use Rattle.console.specs.Forms.{distanceAnswerAs}
+use Rattle.distance.specs.Representation.{measuredAs}
+use Rattle.console.specs.Representation.{distanceAnswerAs}
 use Rattle.console.specs.Numbers.{NumberFor, ToldOf, ConsoleNumbers}
 
 exact : {A : Type 0} (x : Answer A) → Numbered x → NumberFor x (numberOf x)

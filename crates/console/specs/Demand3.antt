@@ -11,8 +11,8 @@ use Rattle.iscc.specs.Base32.{base32}
 use Rattle.iscc.specs.Meaning.{Meaning, Permitted}
 use Rattle.iscc.specs.Item.{Item, itemBytes, itemOf}
 use Rattle.iscc.specs.Lists.{Reordered}
-use Rattle.iscc.specs.Doors.{scheme, codeOf, meaningOfText, textOf, intake, strict}
-use Rattle.iscc.specs.Forms.{writtenAs, outcomeAs}
+use Rattle.iscc.specs.Doors.{scheme, itemsOfText, meaningOfText, textOf, intake, strict}
+use Rattle.iscc.specs.Representation.{writtenAs, outcomeAs}
 use Rattle.iscc.specs.declared.written.Outcome.{Outcome}
 
 -- what `iscc_intake` answers for the text t and the area a, and the area after it
@@ -48,4 +48,4 @@ pub record ConsoleDemand3 : Type 0 where
   -- in at most 73 characters; what a text means is permitted.
   pub short : (m : Meaning) (t a : List ℕ) → answerOf t a .number ≡ 0 → meaningOfText t ≡ accept m → Permitted m × (answerOf t a .length ≤ 73)
   -- Any order of the same units in a list gives the same answer, refusal number included.
-  pub anyOrder : (t u a : List ℕ) (is js : List Item) → codeOf t ≡ accept is → codeOf u ≡ accept js → Reordered is js → (answerOf t a ≡ answerOf u a) × (areaOf t a ≡ areaOf u a)
+  pub anyOrder : (t u a : List ℕ) (is js : List Item) → itemsOfText t ≡ accept is → itemsOfText u ≡ accept js → Reordered is js → (answerOf t a ≡ answerOf u a) × (areaOf t a ≡ areaOf u a)

@@ -1,4 +1,4 @@
 -- The C entries' answers as forms of the definitions' values, and what they promise.
-pub mod Forms
+pub mod Representation
 pub mod Numbers
 pub mod Demand3

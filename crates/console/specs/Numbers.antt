@@ -9,10 +9,10 @@ use Rattle.iscc.specs.Digits.{Below}
 use Rattle.iscc.specs.Items.{join, split}
 use Rattle.iscc.specs.Doors.{intake, strict, readCode, writeText}
 use Rattle.iscc.specs.Distance.{distance}
-use Rattle.iscc.specs.Forms.{writtenAs, outcomeAs}
+use Rattle.iscc.specs.Representation.{writtenAs, outcomeAs}
 use Rattle.iscc.specs.declared.written.Outcome.{Outcome}
-use Rattle.distance.specs.Forms.{measuredAs}
-use Rattle.console.specs.Forms.{distanceAnswerAs}
+use Rattle.distance.specs.Representation.{measuredAs}
+use Rattle.console.specs.Representation.{distanceAnswerAs}
 
 -- a number that is 0 exactly where the definition accepts, and else one of the table
 pub record NumberFor {A : Type 0} (x : Answer A) (number : ℕ) : Type 0 where

@@ -3,7 +3,7 @@ ghost use mathlib.Core.Path.{_≡_};
 ghost use lib.ListN.{length};
 ghost use Rattle.iscc.specs.Answer.{areaAfter};
 ghost use Rattle.iscc.specs.Items.{join, split};
-ghost use Rattle.iscc.specs.Forms.{writtenAs, outcomeAs};
+ghost use Rattle.iscc.specs.Representation.{writtenAs, outcomeAs};
 use iscc::written::Outcome;
 
 #[no_mangle]

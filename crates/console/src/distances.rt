@@ -1,8 +1,8 @@
 // The distance of two units.
 ghost use mathlib.Core.Path.{_≡_};
 ghost use Rattle.iscc.specs.Distance.{distance};
-ghost use Rattle.distance.specs.Forms.{measuredAs};
-ghost use Rattle.console.specs.Forms.{distanceAnswerAs};
+ghost use Rattle.distance.specs.Representation.{measuredAs};
+ghost use Rattle.console.specs.Representation.{distanceAnswerAs};
 
 // Number 0 is success. A refusal has d 0, n 0 and ratio +0.0.
 #[repr(C)]

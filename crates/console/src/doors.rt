@@ -3,7 +3,7 @@ ghost use mathlib.Core.Path.{_≡_};
 ghost use lib.ListN.{length};
 ghost use Rattle.iscc.specs.Answer.{areaAfter, numberOf};
 ghost use Rattle.iscc.specs.Doors.{intake, strict};
-ghost use Rattle.iscc.specs.Forms.{writtenAs, outcomeAs};
+ghost use Rattle.iscc.specs.Representation.{writtenAs, outcomeAs};
 use door::strict::Checked;
 use iscc::written::Outcome;
 

@@ -1,4 +1,4 @@
--- The distance by the units that were read. Assumes nothing.
+-- The distance by the units that were read.
 use Prim.Native.Nat.{ℕ, _-_, _≤_}
 use mathlib.Core.Path.{_≡_, refl, sym, _∙_, ap, subst}
 use mathlib.Core.Bool.{Bool, true, false, not}
@@ -18,13 +18,13 @@ use Rattle.iscc.proofs.Parts.{rest-is}
 use Rattle.iscc.proofs.Permitted.{type-number}
 use Rattle.iscc.proofs.Distance.{Bounded, bounded}
 use Rattle.iscc.proofs.Demands.{demand2}
-use Rattle.unit.specs.Forms.{oneReadAs}
+use Rattle.unit.specs.Representation.{oneReadAs}
 use Rattle.unit.specs.declared.reader.Unit.{Unit}
 use Rattle.unit.specs.declared.reader.UnitRead.{UnitRead}
 use Rattle.unit.specs.declared.reader.UnitRead.the-variants as read
 use Rattle.unit.proofs.ExactlyOne.{OneIs, one-is, one-not}
 use Rattle.distance.specs.declared.answer.Measured.{Measured}
-use Rattle.distance.specs.Forms.{measuredAs, bodyDistance, refusedAs, Holds, comparableAs, Exact}
+use Rattle.distance.specs.Representation.{measuredAs, bodyDistance, refusedAs, Holds, comparableAs, Exact}
 
 -- ---- two units that were read
 

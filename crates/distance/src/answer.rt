@@ -1,6 +1,6 @@
 // The answer of a distance.
 ghost use mathlib.Core.Path.{_≡_};
-ghost use Rattle.distance.specs.Forms.{distanceAs, measure, refusedAs};
+ghost use Rattle.distance.specs.Representation.{distanceAs, measure, refusedAs};
 use iscc::refusal::Refusal;
 
 // The differing bits, the bits compared and their ratio. A refusal has 0, 0 and +0.0.

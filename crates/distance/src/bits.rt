@@ -3,11 +3,11 @@ ghost use mathlib.Core.Path.{_≡_};
 ghost use Prim.Native.Nat.{_≤_, min};
 ghost use lib.ListN.{length};
 ghost use Rattle.iscc.specs.Digits.{digits};
-ghost use Rattle.iscc.specs.Distance.{differingPlaces, differingBits, comparedBits};
+ghost use Rattle.iscc.specs.Distance.{differingPositions, differingBits, comparedBits};
 
 // The bits in which two bytes differ.
 fn of_bytes(x: u8, y: u8) -> u16
-    ensures { λ r. ⌜ (r ≡ differingPlaces (digits 1 8 x) (digits 1 8 y)) × (r ≤ 8) ⌝ }
+    ensures { λ r. ⌜ (r ≡ differingPositions (digits 1 8 x) (digits 1 8 y)) × (r ≤ 8) ⌝ }
 {
     let n = u8::count_ones(x ^ y);
     n as u16

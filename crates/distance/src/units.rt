@@ -5,7 +5,7 @@ ghost use lib.ListN.{length};
 ghost use Rattle.iscc.specs.Answer.{accept};
 ghost use Rattle.iscc.specs.Permitted.{typeOf};
 ghost use Rattle.iscc.specs.Distance.{hasDistance, distance};
-ghost use Rattle.distance.specs.Forms.{measuredAs, bodyDistance, Holds, comparableAs, Exact};
+ghost use Rattle.distance.specs.Representation.{measuredAs, bodyDistance, Holds, comparableAs, Exact};
 use crate::answer::Distance;
 use crate::answer::Measured;
 use crate::bits;

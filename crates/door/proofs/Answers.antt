@@ -8,7 +8,7 @@ use lib.Seq.{take-at}
 use Rattle.iscc.specs.Refusals.{Refusal}
 use Rattle.iscc.specs.Answer.{Answer, accept, refuse, areaAfter}
 use Rattle.iscc.specs.Lists.{zeroFilled}
-use Rattle.iscc.specs.Forms.{writtenAs, codeAs, codeReadAs}
+use Rattle.iscc.specs.Representation.{writtenAs, codeAs, codeReadAs}
 use Rattle.iscc.specs.declared.code.CodeRead.{CodeRead}
 use Rattle.iscc.specs.declared.code.CodeAnswer.the-variants as coded
 use Rattle.iscc.specs.declared.written.Written.{Written}

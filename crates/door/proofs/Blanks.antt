@@ -1,4 +1,4 @@
--- Blanks at both ends and the scheme, by index. Assumes nothing.
+-- Blanks at both ends and the scheme, by index.
 use Prim.Native.Nat.{ℕ, suc, _+_, _-_, _≤_, _<_}
 use mathlib.Core.Path.{_≡_, sym, _∙_, ap}
 use mathlib.Core.Bool.{Bool, true, false, not}
@@ -9,7 +9,8 @@ use lib.ListN.{length, getD, take, drop, length-take, length-map, drop-of-length
 use lib.Seq.{drop-cons, getD-take, length-take-le}
 use borrow.Author.Tests.{not-true, not-false}
 use Rattle.iscc.specs.Alphabet.{upper}
-use Rattle.iscc.specs.Doors.{isBlank, trimEnd, sameText, scheme, schemeLength}
+use Rattle.iscc.specs.Lists.{sameBytes}
+use Rattle.iscc.specs.Doors.{isBlank, trimEnd, scheme, schemeLength}
 use Rattle.iscc.proofs.Text.{trimEnd-skip, trimEnd-stop}
 use Rattle.door.specs.Offsets.{blanksIn}
 use Rattle.octets.proofs.Same.{same-next, same-not, same-shorter, same-end}
@@ -63,7 +64,7 @@ capitals t = map upper (take 5 t)
 
 -- the comparison from i on decides
 abbrev pub SameFrom : List ℕ → ℕ → Type 0
-SameFrom t i = sameText (drop i (capitals t)) (drop i scheme) ≡ sameText (capitals t) scheme
+SameFrom t i = sameBytes (drop i (capitals t)) (drop i scheme) ≡ sameBytes (capitals t) scheme
 
 length-capitals : (t : List ℕ) → length (capitals t) ≡ length (take 5 t)
 length-capitals t = length-map (take 5 t) upper
@@ -73,7 +74,7 @@ unfolding upper
 capital-at t i l = List·getD-map upper (take 5 t) i 0 ∙ ap upper (getD-take 5 t i 0 l)
 
 module _ (t : List ℕ) (i : ℕ) (h : i < 5) (inv : SameFrom t i) where
-  none : sameText (drop i (capitals t)) (drop i scheme) ≡ false → 0 ≡ schemeLength t
+  none : sameBytes (drop i (capitals t)) (drop i scheme) ≡ false → 0 ≡ schemeLength t
   unfolding schemeLength
   none e = rw (sym inv ∙ e)
 
@@ -103,5 +104,5 @@ unfolding schemeLength scheme
 scheme-whole t i h inv =
     let n = length-capitals t in
     let m = length-take 5 t in
-    let e : sameText (drop i (capitals t)) (drop i scheme) ≡ true = same-end (capitals t) scheme i (omega arith) h in
+    let e : sameBytes (drop i (capitals t)) (drop i scheme) ≡ true = same-end (capitals t) scheme i (omega arith) h in
     rw (sym inv ∙ e)

@@ -10,8 +10,8 @@ use Rattle.iscc.specs.Refusals.{Refusal, areaTooShort}
 use Rattle.iscc.specs.Answer.{Answer, accept, refuse, _>>=_, into, areaAfter}
 use Rattle.iscc.specs.Item.{Item, itemBytes, itemOf}
 use Rattle.iscc.specs.Items.{readItems, meaningOfItems}
-use Rattle.iscc.specs.Doors.{payload, codeOf, meaningOfText, codeBytes, readCode}
-use Rattle.iscc.specs.Forms.{codeReadAs}
+use Rattle.iscc.specs.Doors.{payload, itemsOfText, meaningOfText, codeBytes, readCode}
+use Rattle.iscc.specs.Representation.{codeReadAs}
 use Rattle.iscc.specs.declared.code.CodeRead.{CodeRead}
 use Rattle.iscc.specs.declared.code.CodeAnswer.the-variants as coded
 use Rattle.iscc.specs.declared.written.Written.the-variants as written
@@ -27,7 +27,7 @@ use Rattle.door.proofs.Answers.{Held, Told, told, payload-held, payload
 -- ---- the code is that of the payload
 
 code-behind : (t : List ℕ) → codeBytes t ≡ (payload t >>= canonicalBytes)
-unfolding codeBytes meaningOfText codeOf canonicalBytes
+unfolding codeBytes meaningOfText itemsOfText canonicalBytes
 code-behind t = go (payload t)
   where
     items : (y : Answer (List Item)) → (y >>= meaningOfItems >>= λ m. accept (itemBytes (itemOf m))) ≡ (y >>= λ is. meaningOfItems is >>= λ m. accept (itemBytes (itemOf m)))

@@ -9,14 +9,15 @@ use Rattle.iscc.specs.Refusals.{Refusal, areaTooShort, otherText}
 use Rattle.iscc.specs.Answer.{Answer, accept, refuse, _>>=_, _>>_, _otherwise_, into, numberOf, areaAfter}
 use Rattle.iscc.specs.Meaning.{Meaning}
 use Rattle.iscc.specs.Item.{itemBytes, itemOf}
-use Rattle.iscc.specs.Doors.{sameText, meaningOfText, textOf, codeBytes, intake, strict}
-use Rattle.iscc.specs.Forms.{writtenAs, codeReadAs}
+use Rattle.iscc.specs.Lists.{sameBytes}
+use Rattle.iscc.specs.Doors.{meaningOfText, textOf, codeBytes, intake, strict}
+use Rattle.iscc.specs.Representation.{writtenAs, codeReadAs}
 use Rattle.iscc.specs.declared.code.CodeRead.{CodeRead}
 use Rattle.iscc.specs.declared.code.CodeAnswer.the-variants as coded
 use Rattle.iscc.specs.declared.written.Written.{Written}
 use Rattle.iscc.specs.declared.written.Written.the-variants as written
 use Rattle.door.specs.Codes.{textOfCode}
-use Rattle.door.specs.Forms.{checkedAs, checkedNumber}
+use Rattle.door.specs.Representation.{checkedAs, checkedNumber}
 use Rattle.door.specs.declared.strict.Checked.{Checked}
 use Rattle.door.specs.declared.strict.Checked.the-variants.{Accepted, Refused}
 use Rattle.door.proofs.Answers.{Held, Told, told, written-held, written-refused, code-not}
@@ -45,7 +46,7 @@ intake-is t area l = rw (le-leb 73 area l) (go (meaningOfText t))
 -- ---- strict: as intake, then 16
 
 abbrev pub checkedBy : List ℕ → Answer (List ℕ) → Checked
-checkedBy t (accept out) = cond (sameText out t) Accepted (Refused otherText)
+checkedBy t (accept out) = cond (sameBytes out t) Accepted (Refused otherText)
 checkedBy t (refuse q) = Refused q
 
 pub strict-is : (t : List ℕ) (area : ℕ) → 73 ≤ area → checkedAs (strict t) ≡ checkedBy t (intake t area)
@@ -56,8 +57,8 @@ strict-is t area l = rw (le-leb 73 area l) (go (meaningOfText t))
     by m true = refl
     by m false = refl
 
-    go : (r : Answer Meaning) → checkedAs (r >>= λ m. sameText (textOf m) t otherwise otherText >> accept m) ≡ checkedBy t (r >>= λ m. accept (textOf m))
-    go (accept m) = by m (sameText (textOf m) t)
+    go : (r : Answer Meaning) → checkedAs (r >>= λ m. sameBytes (textOf m) t otherwise otherText >> accept m) ≡ checkedBy t (r >>= λ m. accept (textOf m))
+    go (accept m) = by m (sameBytes (textOf m) t)
     go (refuse q) = refl
 
 -- ---- the code by value, and the text that is written of it
@@ -112,9 +113,9 @@ module _ (t : List ℕ) (area : ℕ) (w : Written) (room : 73 ≤ area) (answer 
     pub own-fits : n ≤ length a
     own-fits = own-text .1
 
-    module _ (b : Bool) (same : b ≡ sameText (take (n - 0) a) t) where
+    module _ (b : Bool) (same : b ≡ sameBytes (take (n - 0) a) t) where
       pub checked-same : b ≡ true → CheckedAs (strict t) Accepted
-      checked-same e = let f : sameText (take (n - 0) a) t ≡ true = sym same ∙ e in numbered (strict t) _ (sym (checked-by (own-text .0) ∙ rw f))
+      checked-same e = let f : sameBytes (take (n - 0) a) t ≡ true = sym same ∙ e in numbered (strict t) _ (sym (checked-by (own-text .0) ∙ rw f))
 
       pub checked-other : b ≡ false → CheckedAs (strict t) (Refused otherText)
-      checked-other e = let f : sameText (take (n - 0) a) t ≡ false = sym same ∙ e in numbered (strict t) _ (sym (checked-by (own-text .0) ∙ rw f))
+      checked-other e = let f : sameBytes (take (n - 0) a) t ≡ false = sym same ∙ e in numbered (strict t) _ (sym (checked-by (own-text .0) ∙ rw f))

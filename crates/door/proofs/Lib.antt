@@ -1,4 +1,4 @@
--- Laws of the cleaning and of the doors, over plain lists. Assumes nothing.
+-- Laws of the cleaning and of the doors, over plain lists.
 pub mod Blanks
 pub mod Offsets
 pub mod Runs

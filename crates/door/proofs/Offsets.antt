@@ -1,4 +1,4 @@
--- Where the characters of the run stand in the typed text: by index, and that they stand there. Assumes nothing.
+-- Where the characters of the run stand in the typed text: by index, and that they stand there.
 use Prim.Native.Nat.{ℕ, zero, suc, _+_, _-_, _≤_, _<_}
 use mathlib.Core.Path.{_≡_, refl, sym, _∙_, ap}
 use mathlib.Core.Bool.{Bool, true, false, cond}

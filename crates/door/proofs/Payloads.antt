@@ -12,7 +12,7 @@ use Rattle.iscc.specs.Digits.{byteCount}
 use Rattle.iscc.specs.Alphabet.{isDigit, decode}
 use Rattle.iscc.specs.Base32.{base32, readBase32}
 use Rattle.iscc.specs.Doors.{cleaned, decodeRun, payload}
-use Rattle.iscc.specs.Forms.{writtenAs}
+use Rattle.iscc.specs.Representation.{writtenAs}
 use Rattle.iscc.specs.declared.written.Written.{Written}
 use Rattle.iscc.specs.declared.written.Written.the-variants as written
 use lib.Dec.{leb, ltb}

@@ -1,4 +1,4 @@
--- The run that the code holds, one character more. Assumes nothing.
+-- The run that the code holds, one character more.
 use Prim.Native.Nat.{ℕ, suc, _+_, _-_, _≤_, _<_}
 use mathlib.Core.Path.{_≡_, refl, sym, _∙_, ap}
 use mathlib.Core.List.{List, [], _∷_, _++_}

@@ -15,13 +15,13 @@ use Rattle.iscc.specs.Alphabet.{encode}
 use Rattle.iscc.specs.Base32.{base32, writeBase32}
 use Rattle.iscc.specs.Item.{Item, itemBytes, readOne, meaningOf}
 use Rattle.iscc.specs.Doors.{scheme, textOf, writeText}
-use Rattle.iscc.specs.Forms.{writtenAs}
+use Rattle.iscc.specs.Representation.{writtenAs}
 use Rattle.iscc.specs.declared.written.Written.{Written}
 use Rattle.iscc.specs.declared.written.Written.the-variants.{Length, Refused}
 use Rattle.iscc.proofs.Alphabet.{length-encode}
 use Rattle.iscc.proofs.Meaning.{item-back}
 use Rattle.iscc.proofs.Split.{one-read}
-use Rattle.unit.specs.Forms.{oneReadAs}
+use Rattle.unit.specs.Representation.{oneReadAs}
 use Rattle.unit.specs.declared.reader.Unit as code
 use Rattle.unit.specs.declared.reader.UnitRead.{UnitRead}
 use Rattle.unit.specs.declared.reader.UnitRead.the-variants as read

@@ -1,4 +1,4 @@
--- A code as bytes: the one unit or composite that a text means. Assumes nothing.
+-- A code as bytes: the one unit or composite that a text means.
 use Prim.Native.Nat.{ℕ}
 use mathlib.Core.List.{List, _++_}
 use Rattle.iscc.specs.Answer.{Answer, accept, refuse}

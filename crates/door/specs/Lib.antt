@@ -1,6 +1,6 @@
--- What the doors' inner functions answer. Assumes nothing.
+-- What the doors' inner functions answer.
 pub mod Offsets
 pub mod Runs
 pub mod Codes
-pub mod Forms
+pub mod Representation
 pub mod Payloads

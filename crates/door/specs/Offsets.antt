@@ -1,4 +1,4 @@
--- Where the characters of the run stand in the typed text. Assumes nothing.
+-- Where the characters of the run stand in the typed text.
 use Prim.Native.Nat.{ℕ, zero, suc, _+_}
 use mathlib.Core.Bool.{cond}
 use mathlib.Core.List.{List, [], _∷_}

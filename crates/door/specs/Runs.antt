@@ -1,4 +1,4 @@
--- The run of base32 characters as the code holds it. Assumes nothing.
+-- The run of base32 characters as the code holds it.
 use Prim.Native.Nat.{ℕ, _-_}
 use mathlib.Core.List.{List, _++_}
 use lib.ListN.{length, take, replicate}

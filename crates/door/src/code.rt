@@ -3,7 +3,7 @@ ghost use mathlib.Core.Path.{_≡_};
 ghost use lib.ListN.{length};
 ghost use Rattle.iscc.specs.Answer.{areaAfter};
 ghost use Rattle.iscc.specs.Doors.{codeBytes, readCode};
-ghost use Rattle.iscc.specs.Forms.{writtenAs, codeReadAs};
+ghost use Rattle.iscc.specs.Representation.{writtenAs, codeReadAs};
 ghost use Rattle.door.specs.Codes.{codeDetail};
 use crate::payload;
 use crate::payload::PayloadAnswer;
@@ -35,7 +35,7 @@ pub fn code(text: &[u8], out: &mut [u8]) -> Written
     ensures answer { λ r. ⌜ r ≡ writtenAs (readCode (now (text .entry)) (length (now (out .entry)))) ⌝ }
     ensures area { λ _. ⌜ now (out .exit) ≡ areaAfter (readCode (now (text .entry)) (length (now (out .entry)))) (now (out .entry)) ⌝ }
 {
-    if out.len() < iscc::code::MOST {
+    if out.len() < iscc::code::LONGEST_CODE {
         return Written::Refused(Refusal::AREA_TOO_SHORT);
     }
     let found = read(text);

@@ -2,7 +2,7 @@
 ghost use mathlib.Core.Path.{_≡_};
 ghost use lib.ListN.{length};
 ghost use Rattle.iscc.specs.Answer.{areaAfter};
-ghost use Rattle.iscc.specs.Forms.{writtenAs};
+ghost use Rattle.iscc.specs.Representation.{writtenAs};
 ghost use Rattle.iscc.specs.Doors as doors;
 use crate::code;
 use crate::text;

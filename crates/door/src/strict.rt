@@ -2,13 +2,13 @@
 ghost use mathlib.Core.Path.{_≡_};
 ghost use Rattle.iscc.specs.Answer.{numberOf};
 ghost use Rattle.iscc.specs.Doors as doors;
-ghost use Rattle.door.specs.Forms.{checkedAs, checkedNumber};
+ghost use Rattle.door.specs.Representation.{checkedAs, checkedNumber};
 use crate::intake;
 use iscc::refusal::Refusal;
 use iscc::written::Written;
 use octets::compare;
 
-// A text that is taken, or why it is not. Its number by document 01: `checkedNumber` of specs/Forms.antt.
+// A text that is taken, or why it is not. Its number by document 01: `checkedNumber` of specs/Representation.antt.
 pub enum Checked {
     Accepted,
     Refused(Refusal),

@@ -1,4 +1,4 @@
--- What callers of the reader may count on: bounds of a header that was read, and the definitions' value behind the code's. Assumes nothing.
+-- What callers of the reader may count on: bounds of a header that was read, and the definitions' value behind the code's.
 use Prim.Native.Nat.{ℕ, _+_, _-_, _*_, _%_, _^_, _≤_, _<_}
 use mathlib.Core.Path.{_≡_, refl, ap, subst}
 use mathlib.Core.Bool.{Bool, true, false, cond}
@@ -16,7 +16,7 @@ use Rattle.iscc.proofs.Answer.{passed, accept-inj}
 use Rattle.iscc.proofs.Header.{Writable, length-nibbles, FourRead, parsedFour, four-read}
 use Rattle.header.specs.declared.reader.RawHeader.{RawHeader}
 use Rattle.header.specs.declared.reader.HeaderRead.the-variants.{Header}
-use Rattle.header.specs.Forms.{headerFrom, rawHeaderAs, headerReadAs}
+use Rattle.header.specs.Representation.{headerFrom, rawHeaderAs, headerReadAs}
 
 -- a varnibble that was read
 pub record NumberBounds (ns : List ℕ) (g : Parsed ℕ) : Type 0 where
@@ -59,7 +59,7 @@ pub record HeaderBounds (bs : List ℕ) (g : Parsed iscc.Header) : Type 0 where
   pub most : g .used ≤ 8
   pub within : g .used ≤ length bs
   pub numbers : Writable (g .result)
-  pub short : g .result .mainType < 8 → g .result .subtype < 8 → g .result .version < 8 → g .result .lengthNo < 8 → g .used ≡ 2
+  pub short : g .result .mainType < 8 → g .result .subtype < 8 → g .result .version < 8 → g .result .lengthNumber < 8 → g .used ≡ 2
 
 four-bounds : (bs : List ℕ) (a b c d : Parsed ℕ) → FourRead bs a b c d → HeaderBounds bs (parsedFour bs a b c d)
 four-bounds bs a b c d f =

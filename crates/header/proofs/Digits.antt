@@ -1,4 +1,4 @@
--- Nibbles packed into bytes, as digits of one number. Assumes nothing.
+-- Nibbles packed into bytes, as digits of one number.
 use Prim.Native.Nat.{ℕ, zero, suc, _+_, _-_, _*_, _/_, _%_, _^_}
 use mathlib.Core.Path.{_≡_, refl, sym, _∙_, ap}
 use mathlib.Core.List.{List, [], _∷_, _++_}

@@ -1,4 +1,4 @@
--- The laws that carry the definitions of `iscc` to places in the bytes, where the code reads and writes.
+-- The laws that carry the definitions of `iscc` to the bytes and nibbles, where the code reads and writes.
 pub mod Cases
 pub mod Nibbles
 pub mod Read

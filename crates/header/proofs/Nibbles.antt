@@ -1,4 +1,4 @@
--- The nibble at a place of the bytes, and the number that nibbles from a place on stand for. Assumes nothing.
+-- The nibble at an index, and the number that nibbles from an index on stand for.
 use Prim.Native.Nat.{ℕ, _+_, _*_, _/_, _%_, _^_, _≤_, _<_}
 use mathlib.Core.Path.{_≡_, sym, _∙_, ap}
 use mathlib.Core.List.{List, [], _∷_, _++_}

@@ -1,4 +1,4 @@
--- What the reader's tests say of `readVarnibble` and `readHeader`. Assumes nothing.
+-- What the reader's tests say of `readVarnibble` and `readHeader`.
 use Prim.Native.Nat.{ℕ, _+_, _-_, _*_, _/_, _%_, _^_, _≤_, _<_}
 use mathlib.Core.Path.{_≡_, refl, sym, _∙_, ap}
 use mathlib.Core.Bool.{Bool, true, false, not, _||_}
@@ -18,12 +18,12 @@ use Rattle.header.specs.declared.reader.Number.{Number}
 use Rattle.header.specs.declared.rows.Row.{Row}
 use Rattle.header.specs.declared.reader.Numbers.{Numbers}
 use Rattle.header.specs.declared.reader.HeaderRead.the-variants.{Header, Refused}
-use Rattle.header.specs.Forms.{rowAs, numberAs, NumbersIn, headerReadAs}
+use Rattle.header.specs.Representation.{rowAs, numberAs, NumbersIn, headerReadAs}
 
 abbrev none : Number
 none = record { value = 0; width = 0 }
 
--- the varnibble at a place, by what the code finds there
+-- the varnibble at a nibble, by what the code finds there
 module _ (bs : List ℕ) (at : ℕ) where
   abbrev found : Number
   found = numberAs (readVarnibble (drop at (nibbles bs)))
@@ -77,7 +77,7 @@ accepted-number (refuse q) n e z = absurd (z (ap (λ (x : Number). x .width) e))
 -- ---- the header reader's cases
 
 abbrev pub widths : Numbers → ℕ
-widths n = n .«main_type» .width + n .subtype .width + n .version .width + n .length .width
+widths n = n .«main_type» .width + n .subtype .width + n .version .width + n .«length_number» .width
 
 module _ (bs : List ℕ) (n : Numbers) (f : NumbersIn bs n) where
   abbrev Bad : Type 0
@@ -107,12 +107,12 @@ module _ (bs : List ℕ) (n : Numbers) (f : NumbersIn bs n) where
         third-is : readVarnibble (drop (n .«main_type» .width + n .subtype .width) (nibbles bs)) ≡ accept (parsed (n .version .value) (n .version .width))
         third-is = accepted-number _ _ (f .third) c
 
-        pub bad-fourth : n .length .width ≡ 0 → Bad
+        pub bad-fourth : n .«length_number» .width ≡ 0 → Bad
         unfolding readHeader
         bad-fourth z = rw (first-is, second-is, third-is, stopped _ _ (f .fourth) z)
 
-        module _ (d : n .length .width ≡ 0 → ⊥) where
-          fourth-is : readVarnibble (drop (n .«main_type» .width + n .subtype .width + n .version .width) (nibbles bs)) ≡ accept (parsed (n .length .value) (n .length .width))
+        module _ (d : n .«length_number» .width ≡ 0 → ⊥) where
+          fourth-is : readVarnibble (drop (n .«main_type» .width + n .subtype .width + n .version .width) (nibbles bs)) ≡ accept (parsed (n .«length_number» .value) (n .«length_number» .width))
           fourth-is = accepted-number _ _ (f .fourth) d
 
           module _ {p : Bool} (e : p ≡ (eqb (widths n % 2) 0 || eqb (getD (nibbles bs) (widths n) 0) 0)) where
@@ -121,7 +121,7 @@ module _ (bs : List ℕ) (n : Numbers) (f : NumbersIn bs n) where
             bad-pad z = rw (first-is, second-is, third-is, fourth-is, ← e, not-true p z)
 
             pub header-good : not p ≡ false
-                → Header (record { header = record { «main_type» = n .«main_type» .value; subtype = n .subtype .value; version = n .version .value; length = n .length .value }; used = (widths n + 1) / 2 })
+                → Header (record { header = record { «main_type» = n .«main_type» .value; subtype = n .subtype .value; version = n .version .value; «length_number» = n .«length_number» .value }; used = (widths n + 1) / 2 })
                 ≡ headerReadAs (readHeader bs)
             unfolding readHeader
             header-good z = rw (first-is, second-is, third-is, fourth-is, ← e, not-false p z)

@@ -1,4 +1,4 @@
--- A header of four numbers below 8 is two bytes, a nibble a number. Assumes nothing.
+-- A header of four numbers below 8 is two bytes, a nibble a number.
 use Prim.Native.Nat.{ℕ, _+_, _*_, _/_, _%_, _≤_, _<_}
 use mathlib.Core.Path.{_≡_, sym, _∙_, ap}
 use mathlib.Core.Bool.{Bool, true, _&&_}
@@ -18,20 +18,20 @@ use Rattle.iscc.proofs.Varnibble.{row-is-1}
 use Rattle.iscc.proofs.Header.{read-header}
 use Rattle.header.specs.declared.reader.HeaderRead.the-variants as read
 use Rattle.header.specs.declared.reader.RawHeader.{RawHeader}
-use Rattle.header.specs.Forms.{headerReadAs, shortHeader}
+use Rattle.header.specs.Representation.{headerReadAs, shortHeader}
 
 small : (n : ℕ) → n < 8 → varnibble n ≡ n ∷ []
 unfolding varnibble digits prefixOf firstOf
 small n h = rw (row-is-1 h) (ap (λ (d : ℕ). d ∷ []) (omega arith))
 
 pub short-bytes : (m s v l : ℕ) → m < 8 → s < 8 → v < 8 → l < 8
-    → headerBytes (record { mainType = m; subtype = s; version = v; lengthNo = l }) ≡ (m * 16 + s) ∷ (v * 16 + l) ∷ []
+    → headerBytes (record { mainType = m; subtype = s; version = v; lengthNumber = l }) ≡ (m * 16 + s) ∷ (v * 16 + l) ∷ []
 unfolding headerBytes packed
 short-bytes m s v l a b c d = rw (small m a, small s b, small v c, small l d)
 
 module _ (a b : ℕ) (rest : List ℕ) (a₁ : a / 16 < 8) (a₂ : a % 16 < 8) (b₁ : b / 16 < 8) (b₂ : b % 16 < 8) where
   abbrev nibbles : Header
-  nibbles = record { mainType = a / 16; subtype = a % 16; version = b / 16; lengthNo = b % 16 }
+  nibbles = record { mainType = a / 16; subtype = a % 16; version = b / 16; lengthNumber = b % 16 }
 
   bytes : headerBytes nibbles ≡ a ∷ b ∷ []
   bytes = short-bytes (a / 16) (a % 16) (b / 16) (b % 16) a₁ a₂ b₁ b₂ ∙ rw (div-add-mod' a 16, div-add-mod' b 16)

@@ -1,4 +1,4 @@
--- What the writer's steps say of `varnibble`, `headerBytes` and `writeHeader`. Assumes nothing.
+-- What the writer's steps say of `varnibble`, `headerBytes` and `writeHeader`.
 use Prim.Native.Nat.{ℕ, _+_, _-_, _*_, _/_, _%_, _^_, _≤_, _<_}
 use mathlib.Core.Path.{_≡_, refl, sym, _∙_, ap}
 use mathlib.Core.Bool.{Bool, true, false, not, _&&_}
@@ -16,7 +16,7 @@ use Rattle.iscc.specs.Digits.{digits}
 use Rattle.iscc.specs.Varnibble.{rowOf, varnibble, writeVarnibble}
 use Rattle.iscc.specs.Header.{packed, headerBytes, rawHeader, writeHeader}
 use Rattle.iscc.specs.Header as iscc
-use Rattle.iscc.specs.Forms.{writtenAs}
+use Rattle.iscc.specs.Representation.{writtenAs}
 use Rattle.iscc.specs.declared.written.Written.the-variants.{Length, Refused}
 use Rattle.iscc.proofs.Booleans.{both-true}
 use Rattle.iscc.proofs.Digits.{length-digits}
@@ -24,7 +24,7 @@ use Rattle.iscc.proofs.Groups.{digits-join}
 use Rattle.iscc.proofs.Header.{Writable, raw-header}
 use Rattle.header.specs.declared.Header.{Header}
 use Rattle.header.specs.declared.rows.Row.{Row}
-use Rattle.header.specs.Forms.{rowAs, RowBounds, headerFrom}
+use Rattle.header.specs.Representation.{rowAs, RowBounds, headerFrom}
 use Rattle.header.proofs.Digits.{packed-even, packed-odd}
 
 -- ---- one varnibble more
@@ -61,7 +61,7 @@ joined-four a b c d e f g h = rw (h, g, f, e)
 pub fits-pad : (c x : ℕ) → c ≤ 15 → x < 2 ^ (4 * c) → x < 2 ^ 60
 fits-pad c x l h = let g : 4 * c ≤ 60 = omega arith in lt-of-lt-of-le h (pow-mono g)
 
-module _ (h : Header) (n x : ℕ) (e : digits 4 n x ≡ varnibble (h .«main_type») ++ varnibble (h .subtype) ++ varnibble (h .version) ++ varnibble (h .length)) where
+module _ (h : Header) (n x : ℕ) (e : digits 4 n x ≡ varnibble (h .«main_type») ++ varnibble (h .subtype) ++ varnibble (h .version) ++ varnibble (h .«length_number»)) where
   pub bytes-even : n % 2 ≡ 0 → digits 8 (n / 2) x ≡ headerBytes (headerFrom h)
   unfolding headerBytes
   bytes-even p = packed-even n x p ∙ ap packed e
@@ -80,17 +80,17 @@ refused true true false s a b c d n f e = refl
 refused true true true false a b c d n f e = refl
 refused true true true true a b c d n f e = let z : _≡_ {A = ℕ} 0 1 = cc in absurd (omega arith)
 
-module _ (h : Header) {t : Bool} (et : t ≡ (leb (h .«main_type») 4679 && (leb (h .subtype) 4679 && (leb (h .version) 4679 && leb (h .length) 4679)))) where
+module _ (h : Header) {t : Bool} (et : t ≡ (leb (h .«main_type») 4679 && (leb (h .subtype) 4679 && (leb (h .version) 4679 && leb (h .«length_number») 4679)))) where
   raw-refused : t ≡ false → rawHeader (headerFrom h) ≡ refuse numberTooLarge
   unfolding rawHeader writeVarnibble
-  raw-refused e = refused (leb (h .«main_type») 4679) (leb (h .subtype) 4679) (leb (h .version) 4679) (leb (h .length) 4679) _ _ _ _ _ _ (sym et ∙ e)
+  raw-refused e = refused (leb (h .«main_type») 4679) (leb (h .subtype) 4679) (leb (h .version) 4679) (leb (h .«length_number») 4679) _ _ _ _ _ _ (sym et ∙ e)
 
   pub all-writable : not t ≡ false → Writable (headerFrom h)
   all-writable e =
       let a = both-true (leb (h .«main_type») 4679) _ (sym et ∙ not-false t e) in
       let b = both-true (leb (h .subtype) 4679) _ (a .1) in
-      let c = both-true (leb (h .version) 4679) (leb (h .length) 4679) (b .1) in
-      (leb-true (h .«main_type») 4679 (a .0), leb-true (h .subtype) 4679 (b .0), leb-true (h .version) 4679 (c .0), leb-true (h .length) 4679 (c .1))
+      let c = both-true (leb (h .version) 4679) (leb (h .«length_number») 4679) (b .1) in
+      (leb-true (h .«main_type») 4679 (a .0), leb-true (h .subtype) 4679 (b .0), leb-true (h .version) 4679 (c .0), leb-true (h .«length_number») 4679 (c .1))
 
   module _ (d : List ℕ) where
     abbrev answer : Answer (List ℕ)

@@ -8,5 +8,5 @@ pub struct Header {
     pub main_type: u32,
     pub subtype: u32,
     pub version: u32,
-    pub length: u32,
+    pub length_number: u32,
 }

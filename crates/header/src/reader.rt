@@ -7,7 +7,7 @@ ghost use lib.ListN.{length, take, drop, getD};
 ghost use Rattle.iscc.specs.Digits.{value};
 ghost use Rattle.iscc.specs.Varnibble.{readVarnibble};
 ghost use Rattle.iscc.specs.Header.{nibbles, readHeader};
-ghost use Rattle.header.specs.Forms.{numberAs, NumbersIn, headerReadAs, shortHeader};
+ghost use Rattle.header.specs.Representation.{numberAs, NumbersIn, headerReadAs, shortHeader};
 use crate::Header;
 use crate::rows;
 use iscc::refusal::Refusal;
@@ -37,7 +37,7 @@ fn wide(x: u8) -> u32
     x as u32
 }
 
-// The nibble at a place, the high nibble of a byte first; 0 past the end.
+// The nibble at an index, the high nibble of a byte first; 0 past the end.
 fn nibble(bytes: &[u8], at: usize) -> u32
     ensures { λ r. ⌜ (r ≡ getD (nibbles (now (bytes .entry))) at 0) × (r < 16) ⌝ }
 {
@@ -94,7 +94,7 @@ struct Numbers {
     main_type: Number,
     subtype: Number,
     version: Number,
-    length: Number,
+    length_number: Number,
 }
 
 fn numbers_at_front(bytes: &[u8]) -> Numbers
@@ -105,12 +105,12 @@ fn numbers_at_front(bytes: &[u8]) -> Numbers
     let subtype = number_at(bytes, i);
     let j = i + subtype.width;
     let version = number_at(bytes, j);
-    let length = number_at(bytes, j + version.width);
+    let length_number = number_at(bytes, j + version.width);
     Numbers {
         main_type,
         subtype,
         version,
-        length,
+        length_number,
     }
 }
 
@@ -138,10 +138,10 @@ fn read_any(bytes: &[u8]) -> HeaderRead
     if n.version.width == 0 {
         return HeaderRead::Refused(Refusal::BAD_HEADER);
     }
-    if n.length.width == 0 {
+    if n.length_number.width == 0 {
         return HeaderRead::Refused(Refusal::BAD_HEADER);
     }
-    let count = n.main_type.width + n.subtype.width + n.version.width + n.length.width;
+    let count = n.main_type.width + n.subtype.width + n.version.width + n.length_number.width;
     if !padded(bytes, count) {
         return HeaderRead::Refused(Refusal::BAD_HEADER);
     }
@@ -150,7 +150,7 @@ fn read_any(bytes: &[u8]) -> HeaderRead
             main_type: n.main_type.value,
             subtype: n.subtype.value,
             version: n.version.value,
-            length: n.length.value,
+            length_number: n.length_number.value,
         },
         used: (count + 1) / 2,
     })
@@ -183,7 +183,7 @@ fn short(a: u8, b: u8) -> RawHeader
             main_type: first / 16,
             subtype: first % 16,
             version: second / 16,
-            length: second % 16,
+            length_number: second % 16,
         },
         used: 2,
     }

@@ -3,7 +3,7 @@ ghost use mathlib.Core.Path.{_≡_};
 ghost use Prim.Native.Nat.{_+_, _≤_, _<_};
 ghost use lib.Dec.{ltb};
 ghost use Rattle.iscc.specs.Varnibble.{rowOf, rowBy};
-ghost use Rattle.header.specs.Forms.{rowAs, RowBounds};
+ghost use Rattle.header.specs.Representation.{rowAs, RowBounds};
 
 // A row: its nibbles, its first number, how many numbers it has, its prefix in front of zero data bits, and 16 to the power of its nibbles.
 pub struct Row {

@@ -9,8 +9,8 @@ ghost use Rattle.iscc.specs.Answer.{accept, areaAfter};
 ghost use Rattle.iscc.specs.Digits.{digits};
 ghost use Rattle.iscc.specs.Varnibble.{varnibble};
 ghost use Rattle.iscc.specs.Header.{headerBytes, writeHeader};
-ghost use Rattle.iscc.specs.Forms.{writtenAs};
-ghost use Rattle.header.specs.Forms.{headerFrom};
+ghost use Rattle.iscc.specs.Representation.{writtenAs};
+ghost use Rattle.header.specs.Representation.{headerFrom};
 use crate::Header;
 use crate::rows;
 use iscc::refusal::Refusal;
@@ -37,18 +37,18 @@ fn append(front: Digits, n: u32) -> Digits
 
 // The four varnibbles of a header.
 fn nibbles_of(h: Header) -> Digits
-    requires { ⌜ (h .«main_type» ≤ 4679) × (h .subtype ≤ 4679) × (h .version ≤ 4679) × (h .length ≤ 4679) ⌝ }
-    ensures { λ r. ⌜ (digits 4 (r .count) (r .value) ≡ varnibble (h .«main_type») ++ varnibble (h .subtype) ++ varnibble (h .version) ++ varnibble (h .length)) × (r .value < 2 ^ (4 * r .count)) × (r .count ≤ 16) ⌝ }
+    requires { ⌜ (h .«main_type» ≤ 4679) × (h .subtype ≤ 4679) × (h .version ≤ 4679) × (h .«length_number» ≤ 4679) ⌝ }
+    ensures { λ r. ⌜ (digits 4 (r .count) (r .value) ≡ varnibble (h .«main_type») ++ varnibble (h .subtype) ++ varnibble (h .version) ++ varnibble (h .«length_number»)) × (r .value < 2 ^ (4 * r .count)) × (r .count ≤ 16) ⌝ }
 {
     let a = append(Digits { value: 0, count: 0 }, h.main_type);
     let b = append(a, h.subtype);
     let c = append(b, h.version);
-    append(c, h.length)
+    append(c, h.length_number)
 }
 
 // The bytes of a header: a zero nibble follows an odd count.
 fn bytes_of(h: Header) -> Digits
-    requires { ⌜ (h .«main_type» ≤ 4679) × (h .subtype ≤ 4679) × (h .version ≤ 4679) × (h .length ≤ 4679) ⌝ }
+    requires { ⌜ (h .«main_type» ≤ 4679) × (h .subtype ≤ 4679) × (h .version ≤ 4679) × (h .«length_number» ≤ 4679) ⌝ }
     ensures { λ r. ⌜ (digits 8 (r .count) (r .value) ≡ headerBytes (headerFrom h)) × (r .count ≤ 8) ⌝ }
 {
     let n = nibbles_of(h);
@@ -80,7 +80,7 @@ fn put(bytes: Digits, out: &mut [u8])
 
 // Whether varnibbles can write the four numbers.
 fn writable(h: Header) -> bool
-    ensures { λ r. ⌜ r ≡ (leb (h .«main_type») 4679 && (leb (h .subtype) 4679 && (leb (h .version) 4679 && leb (h .length) 4679))) ⌝ }
+    ensures { λ r. ⌜ r ≡ (leb (h .«main_type») 4679 && (leb (h .subtype) 4679 && (leb (h .version) 4679 && leb (h .«length_number») 4679))) ⌝ }
 {
     if 4679 < h.main_type {
         return false;
@@ -91,7 +91,7 @@ fn writable(h: Header) -> bool
     if 4679 < h.version {
         return false;
     }
-    h.length <= 4679
+    h.length_number <= 4679
 }
 
 // Writes a raw header: 17, then 15.

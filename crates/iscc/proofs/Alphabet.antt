@@ -1,4 +1,4 @@
--- Reading and writing with an alphabet, once for every alphabet whose characters read back. Assumes nothing.
+-- Reading and writing with an alphabet, once for every alphabet whose characters read back.
 use Prim.Native.Nat.{ℕ, _^_, _≤_, _<_}
 use mathlib.Core.Path.{_≡_, refl, sym, _∙_, ap}
 use mathlib.Core.Bool.{Bool, true, false}

@@ -1,4 +1,4 @@
--- The laws of base32. Assumes nothing.
+-- The laws of base32.
 use Prim.Native.Nat.{ℕ, _+_, _*_, _/_, _%_}
 use mathlib.Core.Path.{_≡_, refl, sym, _∙_, ap}
 use mathlib.Core.Bool.{Bool, true, false, not, _||_, Bool·beq}

@@ -1,5 +1,5 @@
 -- The bits in which two numbers differ, by the count of ones of their exclusive or: once over the width, so that bytes and words
--- are counted alike. Assumes nothing.
+-- are counted alike.
 use Prim.Native.Nat.{ℕ, zero, suc, _+_, _*_, _/_, _%_, _^_, min, _≤_, _<_}
 use mathlib.Core.Path.{_≡_, refl, sym, _∙_, ap}
 use mathlib.Core.Bool.{cond}
@@ -14,7 +14,7 @@ use lib.Count.{ones, onesIn, ones-le, ones-cat}
 use lib.Pow.{pow-pos, mod-pow-add}
 use lib.Dec.{eqb, lit<}
 use Rattle.iscc.specs.Digits.{digits}
-use Rattle.iscc.specs.Distance.{bitsOf, differingPlaces, differingBits}
+use Rattle.iscc.specs.Distance.{bitsOf, differingPositions, differingBits}
 use Rattle.iscc.proofs.Digits.{length-digits}
 
 -- a bit is 0 or 1
@@ -38,8 +38,8 @@ one-more : (n : ℕ) → suc n ≡ 1 + n
 one-more n = omega arith
 
 -- the n low bits
-pub ones-differ : (n x y : ℕ) → ones (bitXor (x % 2 ^ n) (y % 2 ^ n)) ≡ differingPlaces (digits 1 n x) (digits 1 n y)
-unfolding digits differingPlaces
+pub ones-differ : (n x y : ℕ) → ones (bitXor (x % 2 ^ n) (y % 2 ^ n)) ≡ differingPositions (digits 1 n x) (digits 1 n y)
+unfolding digits differingPositions
 ones-differ zero x y = rw (mod-one x, mod-one y) zero-ones
 ones-differ (suc n) x y =
     let hx : ℕ = x / 2 ^ n % 2 in
@@ -53,7 +53,7 @@ ones-differ (suc n) x y =
     ∙ rw (one-bit hx hy (mod-lt (x / 2 ^ n) (lit< tt)) (mod-lt (y / 2 ^ n) (lit< tt)), ones-differ n x y))
 
 -- bytes
-pub ones-bytes : (x y : ℕ) → x < 2 ^ 8 → y < 2 ^ 8 → ones (bitXor x y) ≡ differingPlaces (digits 1 8 x) (digits 1 8 y)
+pub ones-bytes : (x y : ℕ) → x < 2 ^ 8 → y < 2 ^ 8 → ones (bitXor x y) ≡ differingPositions (digits 1 8 x) (digits 1 8 y)
 ones-bytes x y hx hy = let e = ones-differ 8 x y in rw (mod-eq-of-lt hx, mod-eq-of-lt hy) at e
 
 pub ones-most : (w x y : ℕ) → x < 2 ^ w → y < 2 ^ w → ones (bitXor x y) ≤ w
@@ -61,33 +61,33 @@ ones-most w x y hx hy = ones-le w (bitXor x y) (xor-lt w x y hx hy)
 
 -- ---- two lists of bytes, a byte of each at a time
 
-places-append : (xs ys us vs : List ℕ) → length xs ≡ length ys → differingPlaces (xs ++ us) (ys ++ vs) ≡ differingPlaces xs ys + differingPlaces us vs
-unfolding differingPlaces
-places-append [] [] us vs h = omega arith
-places-append [] (y ∷ ys) us vs h = omega (arith, h)
-places-append (x ∷ xs) [] us vs h = omega (arith, h)
-places-append (x ∷ xs) (y ∷ ys) us vs h =
-    ap (λ (k : ℕ). cond (eqb x y) 0 1 + k) (places-append xs ys us vs (suc-inj h)) ∙ sym (add-assoc (cond (eqb x y) 0 1) (differingPlaces xs ys) (differingPlaces us vs))
+positions-append : (xs ys us vs : List ℕ) → length xs ≡ length ys → differingPositions (xs ++ us) (ys ++ vs) ≡ differingPositions xs ys + differingPositions us vs
+unfolding differingPositions
+positions-append [] [] us vs h = omega arith
+positions-append [] (y ∷ ys) us vs h = omega (arith, h)
+positions-append (x ∷ xs) [] us vs h = omega (arith, h)
+positions-append (x ∷ xs) (y ∷ ys) us vs h =
+    ap (λ (k : ℕ). cond (eqb x y) 0 1 + k) (positions-append xs ys us vs (suc-inj h)) ∙ sym (add-assoc (cond (eqb x y) 0 1) (differingPositions xs ys) (differingPositions us vs))
 
-differ-cons : (x y : ℕ) (xs ys : List ℕ) → differingBits (x ∷ xs) (y ∷ ys) ≡ differingPlaces (digits 1 8 x) (digits 1 8 y) + differingBits xs ys
+differ-cons : (x y : ℕ) (xs ys : List ℕ) → differingBits (x ∷ xs) (y ∷ ys) ≡ differingPositions (digits 1 8 x) (digits 1 8 y) + differingBits xs ys
 unfolding differingBits bitsOf
-differ-cons x y xs ys = places-append (digits 1 8 x) (digits 1 8 y) (bitsOf xs) (bitsOf ys) (length-digits 1 8 x ∙ sym (length-digits 1 8 y))
+differ-cons x y xs ys = positions-append (digits 1 8 x) (digits 1 8 y) (bitsOf xs) (bitsOf ys) (length-digits 1 8 x ∙ sym (length-digits 1 8 y))
 
 pub differ-none : (ys : List ℕ) → differingBits [] ys ≡ 0
-unfolding differingBits bitsOf differingPlaces
+unfolding differingBits bitsOf differingPositions
 differ-none ys = refl
 
 differ-none′ : (xs : List ℕ) → differingBits xs [] ≡ 0
-unfolding differingBits bitsOf differingPlaces
+unfolding differingBits bitsOf differingPositions
 differ-none′ xs = go (bitsOf xs)
   where
-    go : (bs : List ℕ) → differingPlaces bs [] ≡ 0
+    go : (bs : List ℕ) → differingPositions bs [] ≡ 0
     go [] = refl
     go (b ∷ bs) = refl
 
 -- one more byte of each
 pub differ-next : (xs ys : List ℕ) (i : ℕ) → i < length xs → i < length ys
-    → differingBits (take (i + 1) xs) (take (i + 1) ys) ≡ differingBits (take i xs) (take i ys) + differingPlaces (digits 1 8 (getD xs i 0)) (digits 1 8 (getD ys i 0))
+    → differingBits (take (i + 1) xs) (take (i + 1) ys) ≡ differingBits (take i xs) (take i ys) + differingPositions (digits 1 8 (getD xs i 0)) (digits 1 8 (getD ys i 0))
 differ-next [] ys i hx hy = absurd (not-suc-le-zero hx)
 differ-next (x ∷ xs) [] i hx hy = absurd (not-suc-le-zero hy)
 differ-next (x ∷ xs) (y ∷ ys) zero hx hy = differ-cons x y [] [] ∙ rw (differ-none []) (omega arith)

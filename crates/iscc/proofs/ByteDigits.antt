@@ -1,4 +1,4 @@
--- Bytes as digits of v bits and back, once over v from 1 to 8. Assumes nothing.
+-- Bytes as digits of v bits and back, once over v from 1 to 8.
 use Prim.Native.Nat.{ℕ, _+_, _-_, _*_, _/_, _%_, _^_, _≤_, _<_}
 use mathlib.Core.Path.{_≡_, sym, _∙_, ap}
 use mathlib.Core.List.{List}

@@ -7,7 +7,7 @@ use lib.ListN.{length}
 use lib.Dec.{eqb, leb, ltb}
 use Rattle.iscc.specs.Refusals.{emptyText, longText, longRun, badCharacter, badCount, spareBits, notPermitted, shortBody, areaTooShort, otherText, numberTooLarge, noDistance}
 use Rattle.iscc.specs.Answer.{accept, _>>=_}
-use Rattle.iscc.specs.Lists.{every}
+use Rattle.iscc.specs.Lists.{every, sameBytes}
 use Rattle.iscc.specs.Digits.{Below, fromDigits, allBelow, spareCount, value}
 use Rattle.iscc.specs.Alphabet.{Alphabet, isDigit, digitIn, encode, decode}
 use Rattle.iscc.specs.Base32.{base32, readBase32, writeBase32}
@@ -16,7 +16,7 @@ use Rattle.iscc.specs.Header.{Header, headerBytes, rawHeader, writeHeade
 use Rattle.iscc.specs.Permitted.{MainType, META, SEMANTIC, CONTENT, DATA, INSTANCE, ISCC, ID, typeOf, mainTypeOf, isUnit, permits, bodyBytes}
 use Rattle.iscc.specs.Item.{itemBytes, itemOf, compositeOf, meaningAs, meaningOf, readOne, unitBytes, writeUnit}
 use Rattle.iscc.specs.Items.{sameType, unitsOf, itemsBytes, readItems, meaningOfItems, joinedMeaning, joinedBytes, join, splitBytes, split}
-use Rattle.iscc.specs.Doors.{cleaned, sameText, decodeRun, payload, codeOf, meaningOfText, textOf, codeBytes, readCode, writeText, intake, strict}
+use Rattle.iscc.specs.Doors.{cleaned, decodeRun, payload, itemsOfText, meaningOfText, textOf, codeBytes, readCode, writeText, intake, strict}
 use Rattle.iscc.specs.Distance.{comparable, distance}
 use Rattle.iscc.specs.Exactly.{once, whereAccepted}
 use Rattle.iscc.specs.RefusalOrder.{digitStages, runStages, textStages, itemStage, meaningStages, doorStages, intakeStages, strictStages, readStages, writeStages, writeUnitStages, writeHeaderStages, joinStages, joinAllStages, oneStages, splitStages, distanceStages, readCodeStages, writeTextStages}
@@ -54,7 +54,7 @@ payload-by t = step-once (leb (length t) 1024) longText _ _ (run-by base32 80 (c
 -- ---- the doors
 
 pub door-by : (t : List ℕ) → By (doorStages t) (meaningOfText t)
-unfolding doorStages meaningOfText codeOf
+unfolding doorStages meaningOfText itemsOfText
 door-by t =
     subst (By (doorStages t)) (sym (bind-assoc (payload t) readItems meaningOfItems))
     (behind (textStages t) (payload t) _ _ (payload-by t)
@@ -67,7 +67,7 @@ intake-by t area = step-once (leb 73 area) areaTooShort _ _ (made-of (doorStages
 
 pub strict-by : (t : List ℕ) → By (strictStages t) (strict t)
 unfolding strictStages strict
-strict-by t = behind (doorStages t) (meaningOfText t) _ _ (door-by t) (λ m e. step-once (sameText (textOf m) t) otherText _ [] (done m))
+strict-by t = behind (doorStages t) (meaningOfText t) _ _ (door-by t) (λ m e. step-once (sameBytes (textOf m) t) otherText _ [] (done m))
 
 -- ---- base32
 
@@ -83,15 +83,15 @@ write-by bs area = into-by (accept (encode base32 bs)) area [] (done (encode bas
 
 unit-bytes-by : (h : Header) (body : List ℕ)
     → By
-    (once notPermitted (ltb (h .mainType) 7 && (isUnit (typeOf (h .mainType)) && permits (typeOf (h .mainType)) (h .subtype) (h .version) (h .lengthNo)))
-    ∷ once shortBody (leb (bodyBytes (typeOf (h .mainType)) (h .subtype) (h .lengthNo)) (length body))
+    (once notPermitted (ltb (h .mainType) 7 && (isUnit (typeOf (h .mainType)) && permits (typeOf (h .mainType)) (h .subtype) (h .version) (h .lengthNumber)))
+    ∷ once shortBody (leb (bodyBytes (typeOf (h .mainType)) (h .subtype) (h .lengthNumber)) (length body))
     ∷ [])
     (unitBytes h body)
 unfolding unitBytes mainTypeOf
 unit-bytes-by h body =
     subst (By _)
     (sym (type-test (ltb (h .mainType) 7) notPermitted (typeOf (h .mainType))
-    (λ m. isUnit m && permits m (h .subtype) (h .version) (h .lengthNo)) _))
+    (λ m. isUnit m && permits m (h .subtype) (h .version) (h .lengthNumber)) _))
     (step-once _ notPermitted _ _ (step-once _ shortBody _ [] (done _)))
 
 pub unit-write-by : (h : Header) (body : List ℕ) (area : ℕ) → By (writeUnitStages h body area) (writeUnit h body area)
@@ -105,13 +105,13 @@ unfolding writeVarnibble
 number-test n = record { is = refl }
 
 numbers-test : (h : Header)
-    → Tested (every (λ n. leb n 4679) (h .mainType ∷ h .subtype ∷ h .version ∷ h .lengthNo ∷ [])) numberTooLarge (headerBytes h) (rawHeader h)
+    → Tested (every (λ n. leb n 4679) (h .mainType ∷ h .subtype ∷ h .version ∷ h .lengthNumber ∷ [])) numberTooLarge (headerBytes h) (rawHeader h)
 unfolding rawHeader headerBytes every
 numbers-test h =
     tests-join (writeVarnibble (h .mainType)) _ (number-test (h .mainType))
     (tests-join (writeVarnibble (h .subtype)) _ (number-test (h .subtype))
     (tests-join (writeVarnibble (h .version)) _ (number-test (h .version))
-    (tests-join (writeVarnibble (h .lengthNo)) _ (number-test (h .lengthNo)) (record { is = refl }))))
+    (tests-join (writeVarnibble (h .lengthNumber)) _ (number-test (h .lengthNumber)) (record { is = refl }))))
 
 pub header-write-by : (h : Header) (area : ℕ) → By (writeHeaderStages h area) (writeHeader h area)
 unfolding writeHeaderStages
@@ -119,7 +119,7 @@ header-write-by h area =
     into-by (rawHeader h) area (_ ∷ [])
     (subst (By _) (sym (numbers-test h .is))
     (step-every numberTooLarge (accept (headerBytes h)) [] (done (headerBytes h)) (λ n. leb n 4679)
-    (h .mainType ∷ h .subtype ∷ h .version ∷ h .lengthNo ∷ [])))
+    (h .mainType ∷ h .subtype ∷ h .version ∷ h .lengthNumber ∷ [])))
 
 -- ---- join and split
 
@@ -148,7 +148,7 @@ pub split-by : (bs : List ℕ) (area : ℕ) → By (splitStages bs area) (split 
 unfolding splitStages splitBytes
 split-by bs area =
     into-by (splitBytes bs) area _
-    (behind (oneStages bs) (readOne bs) _ _ (one-by bs) (λ i e. not-composite (i .mainType) (i .subtype) (i .version) (i .lengthNo) (i .body)))
+    (behind (oneStages bs) (readOne bs) _ _ (one-by bs) (λ i e. not-composite (i .mainType) (i .subtype) (i .version) (i .lengthNumber) (i .body)))
 
 -- ---- the distance
 

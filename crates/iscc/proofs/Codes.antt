@@ -16,7 +16,7 @@ use Rattle.iscc.specs.Meaning.{Meaning, Permitted}
 use Rattle.iscc.specs.Item.{Item, itemBytes, itemOf, readOne, meaningOf}
 use Rattle.iscc.specs.Doors.{meaningOfText, textOf, codeBytes, readCode, writeText, intake, strict}
 use Rattle.iscc.specs.Codes.{CodesAndTexts}
-use Rattle.iscc.specs.Forms.{codeAs}
+use Rattle.iscc.specs.Representation.{codeAs}
 use Rattle.iscc.proofs.Answer.{accepted, value-of, passed, answered, accept-inj}
 use Rattle.iscc.proofs.Item.{PermittedItem, length-item, item-most, item-below}
 use Rattle.iscc.proofs.Meaning.{meaning-back, item-permitted, item-back, meant-item}

@@ -1,4 +1,4 @@
--- What reading a text comes to, by the tests in their order, as a reader finds them. Assumes nothing.
+-- What reading a text comes to, by the tests in their order, as a reader finds them.
 use Prim.Native.Nat.{ℕ, _/_, _%_, _^_, _≤_, _<_}
 use mathlib.Core.Path.{_≡_, refl}
 use mathlib.Core.Bool.{Bool, true, false}

@@ -17,30 +17,30 @@ use Rattle.iscc.specs.Meaning.{Meaning, Permitted}
 use Rattle.iscc.specs.Item.{Item, itemBytes, itemOf}
 use Rattle.iscc.specs.Alphabet.{encode}
 use Rattle.iscc.specs.Base32.{base32}
-use Rattle.iscc.specs.Lists.{Reordered}
+use Rattle.iscc.specs.Lists.{Reordered, sameBytes}
 use Rattle.iscc.specs.Items.{readItems, joinedBytes, join}
 use Rattle.iscc.specs.Demands.{Demand3}
 use Rattle.iscc.proofs.Booleans.{both-true}
 use Rattle.iscc.proofs.Order.{means-same, joined-same}
-use Rattle.iscc.specs.Doors.{scheme, sameText, meaningOfText, codeOf, textOf, intake, writtenText, strict}
+use Rattle.iscc.specs.Doors.{scheme, meaningOfText, itemsOfText, textOf, intake, writtenText, strict}
 use Rattle.iscc.proofs.Answer.{Accepted, accepted, value-of, passed, answered}
 
 -- ---- the comparison of texts
 
-pub sameText-refl : (t : List ℕ) → sameText t t ≡ true
-unfolding sameText
-sameText-refl [] = refl
-sameText-refl (c ∷ cs) = rw (eq-eqb c c refl) (sameText-refl cs)
+pub sameBytes-refl : (t : List ℕ) → sameBytes t t ≡ true
+unfolding sameBytes
+sameBytes-refl [] = refl
+sameBytes-refl (c ∷ cs) = rw (eq-eqb c c refl) (sameBytes-refl cs)
 
-pub sameText-eq : (s t : List ℕ) → sameText s t ≡ true → s ≡ t
-unfolding sameText
-sameText-eq [] [] e = refl
-sameText-eq [] (d ∷ ds) e = cc
-sameText-eq (c ∷ cs) [] e = cc
-sameText-eq (c ∷ cs) (d ∷ ds) e =
-    let h : (eqb c d ≡ true) × (sameText cs ds ≡ true) = both-true (eqb c d) (sameText cs ds) e in
+pub sameBytes-eq : (s t : List ℕ) → sameBytes s t ≡ true → s ≡ t
+unfolding sameBytes
+sameBytes-eq [] [] e = refl
+sameBytes-eq [] (d ∷ ds) e = cc
+sameBytes-eq (c ∷ cs) [] e = cc
+sameBytes-eq (c ∷ cs) (d ∷ ds) e =
+    let h : (eqb c d ≡ true) × (sameBytes cs ds ≡ true) = both-true (eqb c d) (sameBytes cs ds) e in
     let p : c ≡ d = eqb-true c d (h .0) in
-    let q : cs ≡ ds = sameText-eq cs ds (h .1) in
+    let q : cs ≡ ds = sameBytes-eq cs ds (h .1) in
     cc
 
 -- ---- what the doors answer, by the text's meaning
@@ -65,15 +65,15 @@ written-of t m area h e =
 
 pub strict-of : (t : List ℕ) (m : Meaning) → meaningOfText t ≡ accept m → textOf m ≡ t → strict t ≡ accept m
 unfolding strict
-strict-of t m e p = rw (e, p, sameText-refl t)
+strict-of t m e p = rw (e, p, sameBytes-refl t)
 
 pub strict-means : (t : List ℕ) (m : Meaning) → strict t ≡ accept m → (meaningOfText t ≡ accept m) × (textOf m ≡ t)
 unfolding strict
 strict-means t m e =
-    let q = answered (meaningOfText t) (λ k. sameText (textOf k) t otherwise otherText >> accept k) e in
-    let p = passed (sameText (textOf (q .0)) t) _ (accept (q .0)) (q .2) in
+    let q = answered (meaningOfText t) (λ k. sameBytes (textOf k) t otherwise otherText >> accept k) e in
+    let p = passed (sameBytes (textOf (q .0)) t) _ (accept (q .0)) (q .2) in
     let s : q .0 ≡ m = let z = p .1 in cc in
-    (q .1 ∙ ap accept s, ap textOf (sym s) ∙ sameText-eq (textOf (q .0)) t (p .0))
+    (q .1 ∙ ap accept s, ap textOf (sym s) ∙ sameBytes-eq (textOf (q .0)) t (p .0))
 
 -- ---- demand 3
 
@@ -81,7 +81,7 @@ spelled : (m : Meaning) → textOf m ≡ scheme ++ encode base32 (itemBytes (ite
 unfolding textOf
 spelled m = refl
 
-reordered : (t u : List ℕ) (is js : List Item) (area : ℕ) → codeOf t ≡ accept is → codeOf u ≡ accept js → Reordered is js → intake t area ≡ intake u area
+reordered : (t u : List ℕ) (is js : List Item) (area : ℕ) → itemsOfText t ≡ accept is → itemsOfText u ≡ accept js → Reordered is js → intake t area ≡ intake u area
 unfolding intake meaningOfText
 reordered t u is js area e f r = rw (e, f, means-same r)
 

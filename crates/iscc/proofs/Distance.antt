@@ -16,7 +16,7 @@ use Rattle.iscc.specs.Digits.{digits}
 use Rattle.iscc.specs.Permitted.{MainType, META, SEMANTIC, CONTENT, DATA, INSTANCE, ISCC, ID, number, permits, bodyBytes}
 use Rattle.iscc.specs.Item.{Item, readItem, readOne}
 use Rattle.iscc.specs.Items.{sameType}
-use Rattle.iscc.specs.Distance.{Distance, bitsOf, differingPlaces, differingBits, comparedBits, ratioOf, hasDistance, comparable, distance}
+use Rattle.iscc.specs.Distance.{Distance, bitsOf, differingPositions, differingBits, comparedBits, ratioOf, hasDistance, comparable, distance}
 use Rattle.iscc.proofs.Answer.{passed, answered, accept-inj}
 use Rattle.iscc.proofs.Booleans.{both-true}
 use Rattle.iscc.proofs.Digits.{length-digits}
@@ -37,12 +37,12 @@ one-most : (b : Bool) → cond b 0 1 ≤ 1
 one-most true = lit≤ tt
 one-most false = lit≤ tt
 
-differing-most : (xs ys : List ℕ) → differingPlaces xs ys ≤ min (length xs) (length ys)
-unfolding differingPlaces
+differing-most : (xs ys : List ℕ) → differingPositions xs ys ≤ min (length xs) (length ys)
+unfolding differingPositions
 differing-most [] ys = omega arith
 differing-most (x ∷ xs) [] = omega arith
 differing-most (x ∷ xs) (y ∷ ys) =
-    let i : differingPlaces xs ys ≤ min (length xs) (length ys) = differing-most xs ys in
+    let i : differingPositions xs ys ≤ min (length xs) (length ys) = differing-most xs ys in
     let o : cond (eqb x y) 0 1 ≤ 1 = one-most (eqb x y) in
     omega arith
 
@@ -50,7 +50,7 @@ differing-most (x ∷ xs) (y ∷ ys) =
 pub apart-most : (x y : List ℕ) → differingBits x y ≤ comparedBits x y
 unfolding differingBits comparedBits
 apart-most x y =
-    let d : differingPlaces (bitsOf x) (bitsOf y) ≤ min (length (bitsOf x)) (length (bitsOf y)) = differing-most (bitsOf x) (bitsOf y) in
+    let d : differingPositions (bitsOf x) (bitsOf y) ≤ min (length (bitsOf x)) (length (bitsOf y)) = differing-most (bitsOf x) (bitsOf y) in
     let a : length (bitsOf x) ≡ 8 * length x = length-bits x in
     let b : length (bitsOf y) ≡ 8 * length y = length-bits y in
     omega arith
@@ -129,8 +129,8 @@ body-32 m s v l (inr (inr (inr e))) p = let h : Small s v l = small m s v l p in
 
 -- the one item has the table's header and body
 pub record OneSized (i : Item) : Type 0 where
-  pub permitted : permits (i .mainType) (i .subtype) (i .version) (i .lengthNo) ≡ true
-  pub sized : length (i .body) ≡ bodyBytes (i .mainType) (i .subtype) (i .lengthNo)
+  pub permitted : permits (i .mainType) (i .subtype) (i .version) (i .lengthNumber) ≡ true
+  pub sized : length (i .body) ≡ bodyBytes (i .mainType) (i .subtype) (i .lengthNumber)
 
 pub one-sized : (bs : List ℕ) (i : Item) → readOne bs ≡ accept i → OneSized i
 unfolding readOne
@@ -155,7 +155,7 @@ bounded x y r e =
     let i : Item = a .0 in
     let c : Comparable i (b .0) = comparable-means i (b .0) .0 (p .0) in
     let o : OneSized i = one-sized x i (a .1) in
-    let l : length (i .body) ≤ 32 = le-trans (le-of-eq (o .sized)) (body-32 (i .mainType) (i .subtype) (i .version) (i .lengthNo) (c .compared) (o .permitted)) in
+    let l : length (i .body) ≤ 32 = le-trans (le-of-eq (o .sized)) (body-32 (i .mainType) (i .subtype) (i .version) (i .lengthNumber) (c .compared) (o .permitted)) in
     subst Bounded (accept-inj (p .1)) (record { apart = apart-most (i .body) (b .0 .body); most = omega arith; ratio = refl })
 
 -- n, by the bodies that were read

@@ -1,5 +1,5 @@
 -- Laws A and B of the doors: what a text means is permitted, and the text of a permitted meaning has that meaning.
--- Demand 3 follows. Assumes nothing.
+-- Demand 3 follows.
 use Prim.Native.Nat.{ℕ, _+_, _*_, _/_, _≤_, _<_}
 use mathlib.Core.Path.{_≡_, refl, sym, _∙_, ap}
 use mathlib.Core.Bool.{false, not}
@@ -15,7 +15,8 @@ use Rattle.iscc.specs.Base32.{base32}
 use Rattle.iscc.specs.Meaning.{Meaning, Permitted}
 use Rattle.iscc.specs.Item.{Item, itemBytes, itemOf}
 use Rattle.iscc.specs.Items.{readItems, itemsBytes, meaningOfItems}
-use Rattle.iscc.specs.Doors.{isBlank, trimStart, trimEnd, sameText, scheme, schemeLength, dropHyphens, trimmed, behindScheme, cleaned, decodeRun, payload, codeOf, meaningOfText, textOf}
+use Rattle.iscc.specs.Lists.{sameBytes}
+use Rattle.iscc.specs.Doors.{isBlank, trimStart, trimEnd, scheme, schemeLength, dropHyphens, trimmed, behindScheme, cleaned, decodeRun, payload, itemsOfText, meaningOfText, textOf}
 use Rattle.iscc.proofs.Answer.{passed, answered}
 use Rattle.iscc.proofs.ByteDigits.{toDigits-below}
 use Rattle.iscc.proofs.Table.{upTo, at}
@@ -46,9 +47,9 @@ payload-below t bs e =
     encode-decode base32 sound32 (cleaned t) bs (run-read base32 80 (cleaned t) bs (p .1)) .bytes
 
 pub meant : (t : List ℕ) (m : Meaning) → meaningOfText t ≡ accept m → Permitted m
-unfolding meaningOfText codeOf
+unfolding meaningOfText itemsOfText
 meant t m e =
-    let a = answered (codeOf t) meaningOfItems e in
+    let a = answered (itemsOfText t) meaningOfItems e in
     let b = answered (payload t) readItems (a .1) in
     means-permitted (a .0) m (items-read (b .0) (a .0) (payload-below t (b .0) (b .1)) (b .2) .permitted) (a .2)
 
@@ -86,7 +87,7 @@ dropHyphens-plain [] p = refl
 dropHyphens-plain (c ∷ cs) p = rw (p .1, dropHyphens-plain cs (p .2))
 
 pub cleaned-plain : (t : List ℕ) → Plain t → cleaned (scheme ++ t) ≡ t
-unfolding cleaned behindScheme trimmed trimStart isBlank scheme schemeLength sameText upper
+unfolding cleaned behindScheme trimmed trimStart isBlank scheme schemeLength sameBytes upper
 cleaned-plain t p =
     rw (trimEnd-plain (scheme ++ t) (refl, refl, (refl, refl, (refl, refl, (refl, refl, (refl, refl, p)))))) (dropHyphens-plain t p)
 
@@ -112,7 +113,7 @@ unfolding textOf scheme
 short m p = let l : Length m = length-of m p in omega arith
 
 pub back : (m : Meaning) → Permitted m → meaningOfText (textOf m) ≡ accept m
-unfolding meaningOfText codeOf payload textOf meaningOfItems itemsBytes
+unfolding meaningOfText itemsOfText payload textOf meaningOfItems itemsBytes
 back m p =
     let i : Item = itemOf m in
     let q : PermittedItem i = item-permitted m p in

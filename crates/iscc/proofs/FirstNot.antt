@@ -1,4 +1,4 @@
--- The first element that fails a test, by index, for loops over a slice. Assumes nothing.
+-- The first element that fails a test, by index, for loops over a slice.
 use Prim.Native.Nat.{ℕ, suc, _+_, _^_, _≤_, _<_}
 use mathlib.Core.Path.{_≡_, refl, sym, _∙_, ap}
 use mathlib.Core.Bool.{Bool, true, false, cond, _&&_, and-false, and-comm}

@@ -1,5 +1,4 @@
 -- Digits and bytes by groups: a part in front that takes whole digits and whole bytes, and the rest behind it. For every width v of a digit.
--- Assumes nothing.
 use Prim.Native.Nat.{ℕ, zero, suc, _+_, _-_, _*_, _/_, _%_, _^_, _≤_, _<_}
 use mathlib.Core.Path.{_≡_, refl, sym, _∙_, ap, ap₂}
 use mathlib.Core.List.{List, [], _∷_, _++_, map, map-append, append-nil, append-assoc}
@@ -15,8 +14,8 @@ use Rattle.iscc.specs.Digits.{digits, value, Below, digitCount, toDigits
 use Rattle.iscc.specs.Alphabet.{Alphabet, charIn, encode}
 use Rattle.iscc.proofs.Digits.{length-digits, digits-below, value-digits, value-inj, value-lt, value-append, value-snoc, digits-append, digits-snoc, below-take, below-drop}
 use Rattle.iscc.proofs.ByteDigits.{Counts, counts}
-use Rattle.iscc.proofs.Area.{Written, nothing-written, one-written}
-use Rattle.iscc.proofs.Lent.{placed, placed-none, placed-all, more-written}
+use Rattle.iscc.proofs.Area.{WrittenFront, nothing-written, one-written}
+use Rattle.iscc.proofs.Filling.{overwritten, overwritten-none, overwritten-all, more-written}
 
 -- the n low digits of a number are those of its low part
 pub digits-low : (v n hi lo : ℕ) → lo < 2 ^ (v * n) → digits v n (hi * 2 ^ (v * n) + lo) ≡ digits v n lo
@@ -109,11 +108,11 @@ digits-next v n x i l =
 module _ (f : ℕ → ℕ) (v n x : ℕ) where
   pub record Put (d area : List ℕ) (j i : ℕ) : Type 0 where
     pub within : i ≤ n
-    pub is : Written (take j d ++ map f (digits v i (x / 2 ^ (v * (n - i))))) d area (j + i)
+    pub is : WrittenFront (take j d ++ map f (digits v i (x / 2 ^ (v * (n - i))))) d area (j + i)
 
   pub put-none : (d : List ℕ) (j : ℕ) → j ≤ length d → Put d d j 0
   unfolding digits
-  put-none d j h = record { within = omega arith; is = rw add-zero (placed-none d j h) }
+  put-none d j h = record { within = omega arith; is = rw add-zero (overwritten-none d j h) }
 
   pub put-one : {d area : List ℕ} {j i : ℕ} (c : ℕ) → Put d area j i → i < n → j + i < length d → c ≡ f (x / 2 ^ (v * (n - 1 - i)) % 2 ^ v) → Put d (set area (j + i) c) j (i + 1)
   put-one {d} {area} {j} {i} c s l room e =
@@ -122,11 +121,11 @@ module _ (f : ℕ → ℕ) (v n x : ℕ) where
       append-assoc (take j d) q (c ∷ []) ∙ rw (digits-next v n x i l, map-append, e) in
       record { within = omega arith; is = rw (← p, ← add-assoc) (one-written c (s .is) room) }
 
-  pub put-all : {d area : List ℕ} {j i : ℕ} → Put d area j i → n ≤ i → area ≡ placed d j n (map f (digits v n x))
+  pub put-all : {d area : List ℕ} {j i : ℕ} → Put d area j i → n ≤ i → area ≡ overwritten d j n (map f (digits v n x))
   put-all {d} {area} {j} {i} s h =
       let e : i ≡ n = omega (arith, s .within) in
       let z : n - n ≡ 0 = omega arith in
-      placed-all j n (map f (digits v n x)) (rw (e, z, mul-zero, div-one) at (s .is)) refl
+      overwritten-all j n (map f (digits v n x)) (rw (e, z, mul-zero, div-one) at (s .is)) refl
 
   -- at the front of the area
   pub put-front : {d area : List ℕ} {i : ℕ} → Put d area 0 i → n ≤ i → area ≡ areaAfter (accept (map f (digits v n x))) d
@@ -137,7 +136,7 @@ module _ (a : Alphabet) (pos : 0 < a .bits) (bs d : List ℕ) where
   pub record Encoded (area : List ℕ) (i o : ℕ) : Type 0 where
     pub within : i ≤ length bs
     pub whole : a .bits * o ≡ 8 * i
-    pub is : Written (encode a (take i bs)) d area o
+    pub is : WrittenFront (encode a (take i bs)) d area o
 
   pub encoded-none : Encoded d 0 0
   encoded-none = record { within = omega arith; whole = omega arith; is = rw (encode-none a pos) (nothing-written d) }
@@ -145,7 +144,7 @@ module _ (a : Alphabet) (pos : 0 < a .bits) (bs d : List ℕ) where
   module _ {area : List ℕ} {i o : ℕ} (k m x : ℕ) (s : Encoded area i o) (b : Below 256 bs) (room : o + m ≤ length d) (e : x ≡ value 8 (take k (drop i bs))) where
     -- the characters of the next k bytes, once they are known to be those of m digits of y
     next : {after : List ℕ} (y : ℕ) → i + k ≤ length bs → encode a (take k (drop i bs)) ≡ map (charIn a) (digits (a .bits) m y) →
-        after ≡ placed area o m (map (charIn a) (digits (a .bits) m y)) → Written (encode a (take (i + k) bs)) d after (o + m)
+        after ≡ overwritten area o m (map (charIn a) (digits (a .bits) m y)) → WrittenFront (encode a (take (i + k) bs)) d after (o + m)
     next y l w p =
         let part : List ℕ = take k (drop i bs) in
         let q : List ℕ = map (charIn a) (digits (a .bits) m y) in
@@ -161,7 +160,7 @@ module _ (a : Alphabet) (pos : 0 < a .bits) (bs d : List ℕ) where
     part-length l = length-take-le k (drop i bs) (omega (arith, length-drop i bs))
 
     -- k bytes that are m digits exactly
-    pub encoded-group : {after : List ℕ} → a .bits * m ≡ 8 * k → i + k ≤ length bs → after ≡ placed area o m (map (charIn a) (digits (a .bits) m x)) → Encoded after (i + k) (o + m)
+    pub encoded-group : {after : List ℕ} → a .bits * m ≡ 8 * k → i + k ≤ length bs → after ≡ overwritten area o m (map (charIn a) (digits (a .bits) m x)) → Encoded after (i + k) (o + m)
     encoded-group w l p =
         record {
           within = l;
@@ -171,7 +170,7 @@ module _ (a : Alphabet) (pos : 0 < a .bits) (bs d : List ℕ) where
 
     -- the last k bytes, with zeros up to a whole digit
     pub encoded-rest : {after : List ℕ} (y : ℕ) → m ≡ digitCount (a .bits) k → i + k ≡ length bs → y ≡ x * 2 ^ (a .bits * m - 8 * k) →
-        after ≡ placed area o m (map (charIn a) (digits (a .bits) m y)) → Written (encode a bs) d after (o + m)
+        after ≡ overwritten area o m (map (charIn a) (digits (a .bits) m y)) → WrittenFront (encode a bs) d after (o + m)
     unfolding encode toDigits
     encoded-rest y c l f p =
         let n : length (take k (drop i bs)) ≡ k = part-length (omega arith) in
@@ -207,7 +206,7 @@ module _ (v : ℕ) (ds d : List ℕ) where
   pub record Decoded (area : List ℕ) (i o : ℕ) : Type 0 where
     pub within : i ≤ length ds
     pub whole : v * i ≡ 8 * o
-    pub is : Written (digits 8 o (value v (take i ds))) d area o
+    pub is : WrittenFront (digits 8 o (value v (take i ds))) d area o
 
   pub decoded-none : Decoded d 0 0
   unfolding digits
@@ -215,7 +214,7 @@ module _ (v : ℕ) (ds d : List ℕ) where
 
   module _ {area : List ℕ} {i o : ℕ} (k m x : ℕ) (s : Decoded area i o) (room : o + m ≤ length d) (e : x ≡ value v (take k (drop i ds))) (b : x < 2 ^ (v * k)) where
     -- k digits that are m bytes exactly
-    pub decoded-group : {after : List ℕ} → v * k ≡ 8 * m → i + k ≤ length ds → after ≡ placed area o m (digits 8 m x) → Decoded after (i + k) (o + m)
+    pub decoded-group : {after : List ℕ} → v * k ≡ 8 * m → i + k ≤ length ds → after ≡ overwritten area o m (digits 8 m x) → Decoded after (i + k) (o + m)
     decoded-group w l p =
         let t : digits 8 (o + m) (value v (take (i + k) ds)) ≡ digits 8 o (value v (take i ds)) ++ digits 8 m x =
         rw (value-next v ds i o k x (s .whole) l e, w) (digits-join 8 o m (value v (take i ds)) x (rw (← w) b)) in
@@ -226,8 +225,8 @@ module _ (v : ℕ) (ds d : List ℕ) where
         }
 
     -- the last k digits, less their spare bits
-    pub decoded-rest : {after : List ℕ} (y : ℕ) → m ≡ byteCount v k → i + k ≡ length ds → y ≡ x / 2 ^ spareCount v k → after ≡ placed area o m (digits 8 m y) →
-        Written (digits 8 (byteCount v (length ds)) (value v ds / 2 ^ spareCount v (length ds))) d after (o + m)
+    pub decoded-rest : {after : List ℕ} (y : ℕ) → m ≡ byteCount v k → i + k ≡ length ds → y ≡ x / 2 ^ spareCount v k → after ≡ overwritten area o m (digits 8 m y) →
+        WrittenFront (digits 8 (byteCount v (length ds)) (value v ds / 2 ^ spareCount v (length ds))) d after (o + m)
     decoded-rest y c all f p =
         let hi : ℕ = value v (take i ds) in
         let q : ℕ = spareCount v k in

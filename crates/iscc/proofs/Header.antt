@@ -1,4 +1,4 @@
--- The laws of raw headers. Assumes nothing.
+-- The laws of raw headers.
 use Prim.Native.Nat.{ℕ, zero, suc, _+_, _-_, _*_, _/_, _%_, _≤_, _<_}
 use mathlib.Core.Path.{_≡_, refl, sym, _∙_, ap, subst}
 use mathlib.Core.Bool.{true, _||_}
@@ -57,21 +57,21 @@ pad-ok ns rest =
     ]
 
 abbrev nibblesOf : Header → List ℕ
-nibblesOf h = varnibble (h .mainType) ++ varnibble (h .subtype) ++ varnibble (h .version) ++ varnibble (h .lengthNo)
+nibblesOf h = varnibble (h .mainType) ++ varnibble (h .subtype) ++ varnibble (h .version) ++ varnibble (h .lengthNumber)
 
 -- numbers that varnibbles can write
 abbrev pub Writable : Header → Type 0
-Writable h = (h .mainType ≤ 4679) × (h .subtype ≤ 4679) × (h .version ≤ 4679) × (h .lengthNo ≤ 4679)
+Writable h = (h .mainType ≤ 4679) × (h .subtype ≤ 4679) × (h .version ≤ 4679) × (h .lengthNumber ≤ 4679)
 
 nibblesOf-below : (h : Header) → Below 16 (nibblesOf h)
 nibblesOf-below h =
     let a : List ℕ = varnibble (h .mainType) in
     let b : List ℕ = varnibble (h .subtype) in
     let c : List ℕ = varnibble (h .version) in
-    let d : List ℕ = varnibble (h .lengthNo) in
+    let d : List ℕ = varnibble (h .lengthNumber) in
     let ab : Below 16 (a ++ b) = below-append 16 a b (varnibble-below (h .mainType)) (varnibble-below (h .subtype)) in
     let abc : Below 16 (a ++ b ++ c) = below-append 16 (a ++ b) c ab (varnibble-below (h .version)) in
-    below-append 16 (a ++ b ++ c) d abc (varnibble-below (h .lengthNo))
+    below-append 16 (a ++ b ++ c) d abc (varnibble-below (h .lengthNumber))
 
 -- what is written reads back, whatever follows
 pub read-header : (h : Header) (rest : List ℕ) → Writable h → readHeader (headerBytes h ++ rest) ≡ accept (parsed h (length (headerBytes h)))
@@ -80,7 +80,7 @@ read-header h rest w =
     let a : ℕ = h .mainType in
     let b : ℕ = h .subtype in
     let c : ℕ = h .version in
-    let d : ℕ = h .lengthNo in
+    let d : ℕ = h .lengthNumber in
     let ns : List ℕ = nibbles (packed (nibblesOf h) ++ rest) in
     let z : List ℕ = padOf (nibblesOf h) ++ nibbles rest in
     let e : ns ≡ nibblesOf h ++ z = nibbles-packed (nibblesOf h) rest (nibblesOf-below h) in
@@ -112,12 +112,12 @@ pub header-below : (h : Header) → Below 256 (headerBytes h)
 unfolding headerBytes
 header-below h = packed-below (nibblesOf h) (nibblesOf-below h)
 
-pub length-header : (h : Header) → length (headerBytes h) ≡ (rowOf (h .mainType) + rowOf (h .subtype) + rowOf (h .version) + rowOf (h .lengthNo) + 1) / 2
+pub length-header : (h : Header) → length (headerBytes h) ≡ (rowOf (h .mainType) + rowOf (h .subtype) + rowOf (h .version) + rowOf (h .lengthNumber) + 1) / 2
 unfolding headerBytes
 length-header h = length-packed (nibblesOf h) ∙ simp (length-append, length-varnibble)
 
 -- four numbers below 8 are two bytes
-pub length-short : (h : Header) → h .mainType < 8 → h .subtype < 8 → h .version < 8 → h .lengthNo < 8 → length (headerBytes h) ≡ 2
+pub length-short : (h : Header) → h .mainType < 8 → h .subtype < 8 → h .version < 8 → h .lengthNumber < 8 → length (headerBytes h) ≡ 2
 length-short h a b c d = length-header h ∙ rw (row-is-1 a, row-is-1 b, row-is-1 c, row-is-1 d)
 
 -- ---- what is read and written again is the same bytes
@@ -163,7 +163,7 @@ module _ (bs : List ℕ) (a b c d : Parsed ℕ) where
     pub pad : (eqb (four % 2) 0 || eqb (getD (nibbles bs) four 0) 0) ≡ true
 
   abbrev fourOf : Header
-  fourOf = record { mainType = a .result; subtype = b .result; version = c .result; lengthNo = d .result }
+  fourOf = record { mainType = a .result; subtype = b .result; version = c .result; lengthNumber = d .result }
 
   abbrev pub parsedFour : Parsed Header
   parsedFour = parsed fourOf ((four + 1) / 2)
@@ -224,4 +224,4 @@ nibble-low (b ∷ bs) (suc i) l =
 
 pub raw-header : (h : Header) → Writable h → rawHeader h ≡ accept (headerBytes h)
 unfolding rawHeader writeVarnibble headerBytes
-raw-header h w = rw (le-leb (h .mainType) 4679 (w .0), le-leb (h .subtype) 4679 (w .1), le-leb (h .version) 4679 (w .2), le-leb (h .lengthNo) 4679 (w .3))
+raw-header h w = rw (le-leb (h .mainType) 4679 (w .0), le-leb (h .subtype) 4679 (w .1), le-leb (h .version) 4679 (w .2), le-leb (h .lengthNumber) 4679 (w .3))

@@ -34,7 +34,7 @@ module _ (bs : List ℕ) where
               mainType = varnibbleAt ns (start 0) .result;
               subtype = varnibbleAt ns (start 1) .result;
               version = varnibbleAt ns (start 2) .result;
-              lengthNo = varnibbleAt ns (start 3) .result;
+              lengthNumber = varnibbleAt ns (start 3) .result;
             };
         used = (start 4 + 1) / 2;
       }

@@ -1,4 +1,4 @@
--- The laws of one item. Assumes nothing.
+-- The laws of one item.
 use Prim.Native.Nat.{ℕ, _+_, _≤_}
 use mathlib.Core.Path.{_≡_, sym, _∙_, ap, subst}
 use mathlib.Core.Bool.{true, _&&_}
@@ -23,12 +23,12 @@ use Rattle.iscc.proofs.Permitted.{mainTypeOf-number, mainTypeOf-back, n
 
 -- an item whose header the table permits, with a body as long as the table says
 pub record PermittedItem (i : Item) : Type 0 where
-  pub header : permits (i .mainType) (i .subtype) (i .version) (i .lengthNo) ≡ true
-  pub body : Sized (bodyBytes (i .mainType) (i .subtype) (i .lengthNo)) (i .body)
+  pub header : permits (i .mainType) (i .subtype) (i .version) (i .lengthNumber) ≡ true
+  pub body : Sized (bodyBytes (i .mainType) (i .subtype) (i .lengthNumber)) (i .body)
 
 pub writable : (i : Item) → PermittedItem i → Writable (headerOf i)
 writable i p =
-    let s : Small (i .subtype) (i .version) (i .lengthNo) = small (i .mainType) (i .subtype) (i .version) (i .lengthNo) (p .header) in
+    let s : Small (i .subtype) (i .version) (i .lengthNumber) = small (i .mainType) (i .subtype) (i .version) (i .lengthNumber) (p .header) in
     let n : number (i .mainType) ≤ 6 = number-small (i .mainType) in
     omega arith
 
@@ -37,7 +37,7 @@ pub read-item : (i : Item) (rest : List ℕ) → PermittedItem i → readItem (i
 unfolding readItem itemBytes
 read-item i rest p =
     let hb : List ℕ = headerBytes (headerOf i) in
-    let n : ℕ = bodyBytes (i .mainType) (i .subtype) (i .lengthNo) in
+    let n : ℕ = bodyBytes (i .mainType) (i .subtype) (i .lengthNumber) in
     let len : length (i .body) ≡ n = p .body .0 in
     let bs : List ℕ = hb ++ (i .body ++ rest) in
     let r : readHeader bs ≡ accept (record { result = headerOf i; used = length hb }) = read-header (headerOf i) (i .body ++ rest) (writable i p) in
@@ -55,12 +55,12 @@ pub record ReadItem (bs : List ℕ) (g : Parsed Item) : Type 0 where
 -- a header that was read, with its main type's name: the tests of the body, and the item
 module _ (bs : List ℕ) (h : Parsed Header) (m : MainType) where
   abbrev size : ℕ
-  size = bodyBytes m (h .result .subtype) (h .result .lengthNo)
+  size = bodyBytes m (h .result .subtype) (h .result .lengthNumber)
 
   pub record Behind : Type 0 where
     pub read : readHeader bs ≡ accept h
     pub mainType : number m ≡ h .result .mainType
-    pub permitted : permits m (h .result .subtype) (h .result .version) (h .result .lengthNo) ≡ true
+    pub permitted : permits m (h .result .subtype) (h .result .version) (h .result .lengthNumber) ≡ true
     pub within : h .used + size ≤ length bs
     pub sized : length (take size (drop (h .used) bs)) ≡ size
 
@@ -83,7 +83,7 @@ unfolding readItem
 behind-header bs P f g e =
     let r = answered (readHeader bs) _ e in
     let q = answered (mainTypeOf (r .0 .result .mainType)) _ (r .2) in
-    let p = passed (permits (q .0) (r .0 .result .subtype) (r .0 .result .version) (r .0 .result .lengthNo)) _ _ (q .2) in
+    let p = passed (permits (q .0) (r .0 .result .subtype) (r .0 .result .version) (r .0 .result .lengthNumber)) _ _ (q .2) in
     let n : ℕ = size bs (r .0) (q .0) in
     let w = passed (leb (r .0 .used + n) (length bs)) _ _ (p .1) in
     let l : r .0 .used + n ≤ length bs = leb-true (r .0 .used + n) (length bs) (w .0) in
@@ -104,21 +104,21 @@ item-read bs g k e = behind-header bs (ReadItem bs) (λ h m. again bs h m k) g e
 
 pub header-two : (i : Item) → PermittedItem i → length (headerBytes (headerOf i)) ≡ 2
 header-two i p =
-    let s : Small (i .subtype) (i .version) (i .lengthNo) = small (i .mainType) (i .subtype) (i .version) (i .lengthNo) (p .header) in
+    let s : Small (i .subtype) (i .version) (i .lengthNumber) = small (i .mainType) (i .subtype) (i .version) (i .lengthNumber) (p .header) in
     let n : number (i .mainType) ≤ 6 = number-small (i .mainType) in
     length-short (headerOf i) (omega arith) (omega arith) (omega arith) (omega arith)
 
-pub length-item : (i : Item) → PermittedItem i → length (itemBytes i) ≡ 2 + bodyBytes (i .mainType) (i .subtype) (i .lengthNo)
+pub length-item : (i : Item) → PermittedItem i → length (itemBytes i) ≡ 2 + bodyBytes (i .mainType) (i .subtype) (i .lengthNumber)
 unfolding itemBytes
 length-item i p =
     let h : length (headerBytes (headerOf i)) ≡ 2 = header-two i p in
-    let b : length (i .body) ≡ bodyBytes (i .mainType) (i .subtype) (i .lengthNo) = p .body .0 in
+    let b : length (i .body) ≡ bodyBytes (i .mainType) (i .subtype) (i .lengthNumber) = p .body .0 in
     simp length-append (omega arith)
 
 pub item-most : (i : Item) → PermittedItem i → length (itemBytes i) ≤ 42
 item-most i p =
-    let l : length (itemBytes i) ≡ 2 + bodyBytes (i .mainType) (i .subtype) (i .lengthNo) = length-item i p in
-    let b : bodyBytes (i .mainType) (i .subtype) (i .lengthNo) ≤ 40 = body-most (i .mainType) (i .subtype) (i .version) (i .lengthNo) (p .header) in
+    let l : length (itemBytes i) ≡ 2 + bodyBytes (i .mainType) (i .subtype) (i .lengthNumber) = length-item i p in
+    let b : bodyBytes (i .mainType) (i .subtype) (i .lengthNumber) ≤ 40 = body-most (i .mainType) (i .subtype) (i .version) (i .lengthNumber) (p .header) in
     omega arith
 
 pub item-below : (i : Item) → PermittedItem i → Below 256 (itemBytes i)
@@ -136,9 +136,9 @@ pub record UnitWritten (h : Header) (body out : List ℕ) : Type 0 where
 
 module _ (h : Header) (body : List ℕ) (m : MainType) where
   abbrev length-of : ℕ
-  length-of = bodyBytes m (h .subtype) (h .lengthNo)
+  length-of = bodyBytes m (h .subtype) (h .lengthNumber)
 
-  unit-made : Below 256 body → number m ≡ h .mainType → permits m (h .subtype) (h .version) (h .lengthNo) ≡ true → length-of ≤ length body
+  unit-made : Below 256 body → number m ≡ h .mainType → permits m (h .subtype) (h .version) (h .lengthNumber) ≡ true → length-of ≤ length body
       → UnitWritten h body (headerBytes h ++ take length-of body)
   unfolding itemBytes
   unit-made k n p l =
@@ -155,7 +155,7 @@ pub unit-written : (h : Header) (body out : List ℕ) → Below 256 body → uni
 unfolding unitBytes
 unit-written h body out k e =
     let r = answered (mainTypeOf (h .mainType)) _ e in
-    let p = passed (isUnit (r .0) && permits (r .0) (h .subtype) (h .version) (h .lengthNo)) _ _ (r .2) in
+    let p = passed (isUnit (r .0) && permits (r .0) (h .subtype) (h .version) (h .lengthNumber)) _ _ (r .2) in
     let q = passed (leb (length-of h body (r .0)) (length body)) _ _ (p .1) in
     subst (UnitWritten h body) (accept-inj (q .1))
     (unit-made h body (r .0) k (mainTypeOf-back (h .mainType) (r .0) (r .1)) (both-true (isUnit (r .0)) _ (p .0) .1)

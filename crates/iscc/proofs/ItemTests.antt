@@ -40,7 +40,7 @@ unit-by bs =
     (λ h e. rw e
     (subst (By _)
     (sym (type-test (ltb (h .result .mainType) 7) notPermitted (typeOf (h .result .mainType))
-    (λ m. permits m (h .result .subtype) (h .result .version) (h .result .lengthNo)) _))
+    (λ m. permits m (h .result .subtype) (h .result .version) (h .result .lengthNumber)) _))
     (step-once _ notPermitted _ _ (step-once _ shortBody _ [] (done _)))))
 
 pub one-by : (bs : List ℕ) → By (oneStages bs) (readOne bs)

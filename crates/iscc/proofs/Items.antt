@@ -13,7 +13,7 @@ use borrow.Author.Tests.{le-leb, lt-leb, leb-true, eqb-true, eq-eqb}
 use Rattle.iscc.specs.Answer.{Answer, accept, _>>=_}
 use Rattle.iscc.specs.Digits.{Below}
 use Rattle.iscc.specs.Varnibble.{Parsed}
-use Rattle.iscc.specs.Permitted.{MainType, META, SEMANTIC, CONTENT, DATA, INSTANCE, number, mainTypeOf, Set, setNumber, unitTypes, compositeSubtype, row}
+use Rattle.iscc.specs.Permitted.{MainType, META, SEMANTIC, CONTENT, DATA, INSTANCE, number, mainTypeOf, Set, setLengthNumber, unitTypes, compositeSubtype, row}
 use Rattle.iscc.specs.Meaning.{Meaning, composite, Sized, Permitted}
 use Rattle.iscc.specs.Item.{Item, itemBytes, readItem, meaningOf}
 use Rattle.iscc.specs.Lists.{All, every, pairwise}
@@ -109,7 +109,7 @@ subtype-in : (m : MainType) → ((s l : ℕ) → row m s l ≡ leb s 4 && leb l 
 subtype-in m f is p h =
     let r = found-in PermittedItem m is p h in
     let s : ℕ = r .item .subtype in
-    let l : ℕ = r .item .lengthNo in
+    let l : ℕ = r .item .lengthNumber in
     let e : row m s l ≡ true = ap (λ (k : MainType). row k s l) (r .named) ∙ both-true (eqb (r .item .version) 0) (row (r .item .mainType) s l) (r .holds .header) .1 in
     rw (r .subtype) (leb-true s 4 (both-true (leb s 4) (leb l 7) (sym (f s l) ∙ e) .0))
 
@@ -134,7 +134,7 @@ compositeFrom-parts is m e =
 
 -- the subtype of a list is one that the rules allow for its set
 subtype-allowed : (u : Set) (x y : ℕ) → (u .semantic ≡ true → x ≤ 4) → (u .content ≡ true → y ≤ 4)
-    → compositeSubtype (setNumber u) (cond (u .semantic) x (cond (u .content) y (cond (u .meta) 6 5))) ≡ true
+    → compositeSubtype (setLengthNumber u) (cond (u .semantic) x (cond (u .content) y (cond (u .meta) 6 5))) ≡ true
 subtype-allowed u x y f g = subtype-by-set _ u ∙ go (u .semantic) (u .content) f g
   where
     go : (b c : Bool) → (b ≡ true → x ≤ 4) → (c ≡ true → y ≤ 4)

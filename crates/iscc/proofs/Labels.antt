@@ -1,23 +1,23 @@
--- The labels of document 01 hold, by computation. Assumes nothing.
+-- The labels of document 01 hold, by computation.
 use mathlib.Core.Path.{refl}
 use mathlib.Core.List.{flatten}
-use Rattle.iscc.specs.Lists.{every, pairwise, cut}
+use Rattle.iscc.specs.Lists.{every, pairwise, cut, sameBytes}
 use Rattle.iscc.specs.Digits.{digits, value, allBelow, digitCount, toDigits, byteCount, spareCount, fromDigits}
 use Rattle.iscc.specs.Alphabet.{upper, indexOf, charIn, digitIn, encode, decode}
 use Rattle.iscc.specs.Base32.{base32}
 use Rattle.iscc.specs.Varnibble.{firstOf, prefixOf, rowOf, rowBy, varnibble, writeVarnibble, readVarnibble}
 use Rattle.iscc.specs.Header.{nibbles, packed, headerBytes, rawHeader, readHeader}
 use Rattle.iscc.specs.Permitted.{typeOf, mainTypeOf, sets, setOf, unitTypes, compositeSubtype, row, bodyBytes}
-use Rattle.iscc.specs.Item.{itemBytes, readItem, readOne, unitBytes, compositeOf, meaningAs, lengthNoOf, itemOf}
+use Rattle.iscc.specs.Item.{itemBytes, readItem, readOne, unitBytes, compositeOf, meaningAs, unitLengthNumber, itemOf}
 use Rattle.iscc.specs.Items.{readUpTo, readItems, bodyIn, subtypeIn, subtypeOf, compositeFrom, meaningOfItems}
-use Rattle.iscc.specs.Doors.{isBlank, trimStart, trimEnd, sameText, scheme, schemeLength, dropHyphens, trimmed, behindScheme, cleaned, decodeRun, payload, codeOf, meaningOfText, textOf, intake}
-use Rattle.iscc.specs.Distance.{bitsOf, differingPlaces, ratioOf, differingBits, comparedBits, comparable, distance}
+use Rattle.iscc.specs.Doors.{isBlank, trimStart, trimEnd, scheme, schemeLength, dropHyphens, trimmed, behindScheme, cleaned, decodeRun, payload, itemsOfText, meaningOfText, textOf, intake}
+use Rattle.iscc.specs.Distance.{bitsOf, differingPositions, ratioOf, differingBits, comparedBits, comparable, distance}
 use Rattle.iscc.specs.Lines.{linesOf, decimal, refusedWord, lineAnswer, lineAnswers, lineProgram}
 use Rattle.iscc.specs.Labels.{StarredLabels, OtherLabels, PinnedDefinitions}
 use lib.Ieee.{ofInt, div}
 
 pub starred : StarredLabels
-unfolding digits value allBelow digitCount toDigits byteCount spareCount fromDigits upper indexOf charIn digitIn encode decode base32 firstOf prefixOf rowOf rowBy varnibble writeVarnibble readVarnibble nibbles packed headerBytes rawHeader readHeader typeOf mainTypeOf sets setOf unitTypes compositeSubtype row bodyBytes itemBytes readItem readOne cut compositeOf meaningAs lengthNoOf flatten itemOf readUpTo readItems every pairwise bodyIn subtypeIn subtypeOf compositeFrom meaningOfItems isBlank trimStart trimEnd sameText scheme schemeLength dropHyphens trimmed behindScheme cleaned decodeRun payload codeOf meaningOfText textOf intake bitsOf differingPlaces ratioOf differingBits comparedBits comparable distance ofInt div
+unfolding digits value allBelow digitCount toDigits byteCount spareCount fromDigits upper indexOf charIn digitIn encode decode base32 firstOf prefixOf rowOf rowBy varnibble writeVarnibble readVarnibble nibbles packed headerBytes rawHeader readHeader typeOf mainTypeOf sets setOf unitTypes compositeSubtype row bodyBytes itemBytes readItem readOne cut compositeOf meaningAs unitLengthNumber flatten itemOf readUpTo readItems every pairwise bodyIn subtypeIn subtypeOf compositeFrom meaningOfItems isBlank trimStart trimEnd sameBytes scheme schemeLength dropHyphens trimmed behindScheme cleaned decodeRun payload itemsOfText meaningOfText textOf intake bitsOf differingPositions ratioOf differingBits comparedBits comparable distance ofInt div
 starred =
     record {
       number7 = refl;
@@ -39,7 +39,7 @@ starred =
     }
 
 pub others : OtherLabels
-unfolding digits value allBelow digitCount toDigits byteCount spareCount fromDigits upper indexOf charIn digitIn encode decode base32 firstOf prefixOf rowOf rowBy varnibble readVarnibble nibbles packed headerBytes readHeader typeOf mainTypeOf sets setOf unitTypes compositeSubtype row bodyBytes itemBytes readItem cut compositeOf meaningAs lengthNoOf flatten itemOf readUpTo readItems every pairwise bodyIn subtypeIn subtypeOf compositeFrom meaningOfItems isBlank trimStart trimEnd sameText scheme schemeLength dropHyphens trimmed behindScheme cleaned decodeRun payload codeOf meaningOfText textOf intake linesOf decimal refusedWord lineAnswer lineAnswers lineProgram
+unfolding digits value allBelow digitCount toDigits byteCount spareCount fromDigits upper indexOf charIn digitIn encode decode base32 firstOf prefixOf rowOf rowBy varnibble readVarnibble nibbles packed headerBytes readHeader typeOf mainTypeOf sets setOf unitTypes compositeSubtype row bodyBytes itemBytes readItem cut compositeOf meaningAs unitLengthNumber flatten itemOf readUpTo readItems every pairwise bodyIn subtypeIn subtypeOf compositeFrom meaningOfItems isBlank trimStart trimEnd sameBytes scheme schemeLength dropHyphens trimmed behindScheme cleaned decodeRun payload itemsOfText meaningOfText textOf intake linesOf decimal refusedWord lineAnswer lineAnswers lineProgram
 others =
     record {
       noColon = refl;
@@ -58,7 +58,7 @@ others =
     }
 
 pub pinned : PinnedDefinitions
-unfolding digits value allBelow digitCount toDigits byteCount spareCount fromDigits upper indexOf charIn digitIn encode decode base32 firstOf prefixOf rowOf rowBy varnibble readVarnibble nibbles packed headerBytes readHeader typeOf mainTypeOf row bodyBytes itemBytes readItem readOne unitBytes meaningAs lengthNoOf itemOf readUpTo readItems meaningOfItems isBlank trimStart trimEnd sameText scheme schemeLength dropHyphens trimmed behindScheme cleaned decodeRun payload codeOf meaningOfText textOf intake bitsOf differingPlaces ratioOf differingBits comparedBits comparable distance ofInt div
+unfolding digits value allBelow digitCount toDigits byteCount spareCount fromDigits upper indexOf charIn digitIn encode decode base32 firstOf prefixOf rowOf rowBy varnibble readVarnibble nibbles packed headerBytes readHeader typeOf mainTypeOf row bodyBytes itemBytes readItem readOne unitBytes meaningAs unitLengthNumber itemOf readUpTo readItems meaningOfItems isBlank trimStart trimEnd sameBytes scheme schemeLength dropHyphens trimmed behindScheme cleaned decodeRun payload itemsOfText meaningOfText textOf intake bitsOf differingPositions ratioOf differingBits comparedBits comparable distance ofInt div
 pinned =
     record {
       shorterFirst = refl;

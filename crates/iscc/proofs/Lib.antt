@@ -32,11 +32,11 @@ pub mod ItemTests
 pub mod ListTests
 pub mod CallTests
 pub mod Demands
-pub mod Forms
+pub mod Representation
 pub mod Labels
 pub mod Values
 pub mod FirstNot
-pub mod Lent
+pub mod Filling
 pub mod Codes
 pub mod Numbers
 pub mod Groups

@@ -6,8 +6,8 @@ use mathlib.Core.List.{List}
 use lib.ListN.{length}
 use Rattle.iscc.specs.Permitted.{MainType, META, SEMANTIC, CONTENT, DATA, INSTANCE, ISCC, ID, isUnit, setOf, unitCount, permits, bodyBytes}
 use Rattle.iscc.specs.Meaning.{Meaning, unit, composite, Sized, Permitted}
-use Rattle.iscc.specs.Item.{Item, compositeOf, meaningAs, meaningOf, lengthNoOf, itemOf}
-use Rattle.iscc.proofs.Permitted.{Small, small, unit-or-composite, lengthNo-back, set-back, number-back, composite-permits, permits-composite}
+use Rattle.iscc.specs.Item.{Item, compositeOf, meaningAs, meaningOf, unitLengthNumber, itemOf}
+use Rattle.iscc.proofs.Permitted.{Small, small, unit-or-composite, lengthNumber-back, set-back, number-back, composite-permits, permits-composite}
 use Rattle.iscc.proofs.Cut.{cut-flatten, flatten-sized, length-cut, sized-cut, flatten-cut}
 use Rattle.iscc.proofs.Item.{PermittedItem}
 
@@ -31,7 +31,7 @@ meaning-back (composite s v units bodies) p = rw (set-back units, ← p .count, 
 pub item-permitted : (m : Meaning) → Permitted m → PermittedItem (itemOf m)
 unfolding itemOf bodyBytes
 item-permitted (unit m s v body) p =
-    let e : lengthNoOf m (length body) ≡ p .lengthNo = ap (lengthNoOf m) (p .sized .0) ∙ lengthNo-back m s (p .lengthNo) (p .single) in
+    let e : unitLengthNumber m (length body) ≡ p .lengthNumber = ap (unitLengthNumber m) (p .sized .0) ∙ lengthNumber-back m s (p .lengthNumber) (p .single) in
     record { header = rw e (p .header); body = (rw e (p .sized .0), p .sized .1) }
 item-permitted (composite s v units bodies) p =
     record { header = composite-permits s v units (p .version) (p .subtype); body = rw (set-back units, ← p .count) (flatten-sized 8 bodies (p .sized)) }
@@ -46,15 +46,15 @@ module _ (s v l : ℕ) (body : List ℕ) (p : permits ISCC s v l ≡ true) (z : 
   unfolding compositeOf bodyBytes
   composite-permitted =
       let k : Small s v l = small ISCC s v l p in record {
-        subtype = rw (number-back l (k .lengthNo)) (permits-composite s v l p);
+        subtype = rw (number-back l (k .lengthNumber)) (permits-composite s v l p);
         version = k .version;
         count = length-cut 8 count body;
         sized = sized-cut 8 count body z;
       }
 
-  composite-back : itemOf (compositeOf s v (setOf l) body) ≡ record { mainType = ISCC; subtype = s; version = v; lengthNo = l; body = body }
+  composite-back : itemOf (compositeOf s v (setOf l) body) ≡ record { mainType = ISCC; subtype = s; version = v; lengthNumber = l; body = body }
   unfolding itemOf compositeOf bodyBytes
-  composite-back = rw (number-back l (small ISCC s v l p .lengthNo), flatten-cut 8 count body z)
+  composite-back = rw (number-back l (small ISCC s v l p .lengthNumber), flatten-cut 8 count body z)
 
 -- ---- what a permitted item means is permitted, and the item comes back from it
 
@@ -63,20 +63,20 @@ module _ (s v l : ℕ) (body : List ℕ) where
   Meant m = permits m s v l ≡ true → Sized (bodyBytes m s l) body → Permitted (meaningAs m s v l body)
 
   abbrev Back : MainType → Type 0
-  Back m = permits m s v l ≡ true → Sized (bodyBytes m s l) body → itemOf (meaningAs m s v l body) ≡ record { mainType = m; subtype = s; version = v; lengthNo = l; body = body }
+  Back m = permits m s v l ≡ true → Sized (bodyBytes m s l) body → itemOf (meaningAs m s v l body) ≡ record { mainType = m; subtype = s; version = v; lengthNumber = l; body = body }
 
   meant-by : (m : MainType) → Meant m
   unfolding meaningAs
   meant-by =
-      unit-or-composite Meant (λ m u h z. rw (unit-means m s v l body u) (record { lengthNo = l; single = u; header = h; sized = z })) (composite-permitted s v l body)
+      unit-or-composite Meant (λ m u h z. rw (unit-means m s v l body u) (record { lengthNumber = l; single = u; header = h; sized = z })) (composite-permitted s v l body)
 
   back-by : (m : MainType) → Back m
   unfolding meaningAs itemOf
   back-by =
-      unit-or-composite Back (λ m u h z. rw (unit-means m s v l body u, z .0, lengthNo-back m s l u)) (composite-back s v l body)
+      unit-or-composite Back (λ m u h z. rw (unit-means m s v l body u, z .0, lengthNumber-back m s l u)) (composite-back s v l body)
 
 pub meant-item : (i : Item) → PermittedItem i → Permitted (meaningOf i)
-meant-item i p = meant-by (i .subtype) (i .version) (i .lengthNo) (i .body) (i .mainType) (p .header) (p .body)
+meant-item i p = meant-by (i .subtype) (i .version) (i .lengthNumber) (i .body) (i .mainType) (p .header) (p .body)
 
 pub item-back : (i : Item) → PermittedItem i → itemOf (meaningOf i) ≡ i
-item-back i p = back-by (i .subtype) (i .version) (i .lengthNo) (i .body) (i .mainType) (p .header) (p .body)
+item-back i p = back-by (i .subtype) (i .version) (i .lengthNumber) (i .body) (i .mainType) (p .header) (p .body)

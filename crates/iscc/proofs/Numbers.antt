@@ -23,7 +23,7 @@ use Rattle.iscc.specs.Doors.{payload, meaningOfText, readCode, writeText
 use Rattle.iscc.specs.Distance.{distance}
 use Rattle.iscc.specs.Exactly.{Rule, BrokenAt, First, once, whereAccepted}
 use Rattle.iscc.specs.RefusalOrder.{digitStages, runStages, textStages, listStages, meaningStages, areaStages, doorStages, intakeStages, strictStages, readStages, joinStages, joinAllStages, writeStages, headerStages, writeHeaderStages, unitStages, oneStages, writeUnitStages, splitStages, distanceStages, readCodeStages, writeTextStages}
-use Rattle.iscc.specs.Forms.{writtenAs, outcomeAs}
+use Rattle.iscc.specs.Representation.{writtenAs, outcomeAs}
 use Rattle.iscc.proofs.Booleans.{both-true}
 use Rattle.iscc.proofs.Steps.{By}
 use Rattle.iscc.proofs.HeaderTests.{header-by}

@@ -9,8 +9,8 @@ use lib.Dec.{eqb, leb, ltb, lit≤}
 use borrow.Author.Tests.{eqb-true, leb-true, ltb-true, lt-ltb, le-leb, eq-eqb}
 use Rattle.iscc.specs.Answer.{accept}
 use Rattle.iscc.specs.Lists.{All, every, pairwise}
-use Rattle.iscc.specs.Permitted.{MainType, META, SEMANTIC, CONTENT, DATA, INSTANCE, ISCC, ID, number, isUnit, typeOf, mainTypeOf, Set, sets, setOf, setNumber, weight, unitCount, only, unitTypes, compositeSubtype, row, permits, bodyBytes}
-use Rattle.iscc.specs.Item.{lengthNoOf}
+use Rattle.iscc.specs.Permitted.{MainType, META, SEMANTIC, CONTENT, DATA, INSTANCE, ISCC, ID, number, isUnit, typeOf, mainTypeOf, Set, sets, setOf, setLengthNumber, weight, unitCount, only, unitTypes, compositeSubtype, row, permits, bodyBytes}
+use Rattle.iscc.specs.Item.{unitLengthNumber}
 use Rattle.iscc.specs.Items.{sameType}
 use Rattle.iscc.proofs.Answer.{accept-inj, passed}
 use Rattle.iscc.proofs.Booleans.{both-true}
@@ -64,7 +64,7 @@ unit-or-composite P f g ID = f ID refl
 pub record Small (s v l : ℕ) : Type 0 where
   pub subtype : s ≤ 7
   pub version : v ≡ 0
-  pub lengthNo : l ≤ 7
+  pub lengthNumber : l ≤ 7
 
 cond-cases {ℓ} : (P : Type ℓ) (b : Bool) (x y : Bool) → cond b x y ≡ true → (b ≡ true → x ≡ true → P) → (b ≡ false → y ≡ true → P) → P
 cond-cases P true x y e f g = f refl e
@@ -97,18 +97,18 @@ pub small : (m : MainType) (s v l : ℕ) → permits m s v l ≡ true → Small 
 small m s v l e =
     let p = both-true (eqb v 0) (row m s l) e in
     let r = row-small m s l (p .1) in
-    record { subtype = r .0; version = eqb-true v 0 (p .0); lengthNo = r .1 }
+    record { subtype = r .0; version = eqb-true v 0 (p .0); lengthNumber = r .1 }
 
 -- a unit's length number comes back from its body's length
-pub lengthNo-back : (m : MainType) (s l : ℕ) → isUnit m ≡ true → lengthNoOf m (bodyBytes m s l) ≡ l
-unfolding lengthNoOf bodyBytes
-lengthNo-back META s l u = omega arith
-lengthNo-back SEMANTIC s l u = omega arith
-lengthNo-back CONTENT s l u = omega arith
-lengthNo-back DATA s l u = omega arith
-lengthNo-back INSTANCE s l u = omega arith
-lengthNo-back ISCC s l u = cc
-lengthNo-back ID s l u = omega arith
+pub lengthNumber-back : (m : MainType) (s l : ℕ) → isUnit m ≡ true → unitLengthNumber m (bodyBytes m s l) ≡ l
+unfolding unitLengthNumber bodyBytes
+lengthNumber-back META s l u = omega arith
+lengthNumber-back SEMANTIC s l u = omega arith
+lengthNumber-back CONTENT s l u = omega arith
+lengthNumber-back DATA s l u = omega arith
+lengthNumber-back INSTANCE s l u = omega arith
+lengthNumber-back ISCC s l u = cc
+lengthNumber-back ID s l u = omega arith
 
 -- what holds of each of the eight sets holds of any
 each-set {ℓ} : (P : Set → Type ℓ) → P (setOf 0) → P (setOf 1) → P (setOf 2) → P (setOf 3) → P (setOf 4) → P (setOf 5) → P (setOf 6) → P (setOf 7) → (u : Set) → P u
@@ -126,14 +126,14 @@ each-set P p₀ p₁ p₂ p₃ p₄ p₅ p₆ p₇ u = go (u .meta) (u .semantic
     go true true true = p₇
 
 -- a set comes back from its number
-pub set-back : (u : Set) → setOf (setNumber u) ≡ u
+pub set-back : (u : Set) → setOf (setLengthNumber u) ≡ u
 unfolding setOf sets
 set-back = each-set _ refl refl refl refl refl refl refl refl
 
 -- a length number comes back from its set
-pub number-back : (l : ℕ) → l ≤ 7 → setNumber (setOf l) ≡ l
+pub number-back : (l : ℕ) → l ≤ 7 → setLengthNumber (setOf l) ≡ l
 unfolding setOf sets upTo
-number-back l h = eqb-true (setNumber (setOf l)) l (at 8 (λ k. eqb (setNumber (setOf k)) k) refl l (omega arith))
+number-back l h = eqb-true (setLengthNumber (setOf l)) l (at 8 (λ k. eqb (setLengthNumber (setOf k)) k) refl l (omega arith))
 
 weight-one : (b : Bool) → weight 1 b ≤ 1
 weight-one true = lit≤ tt
@@ -157,12 +157,12 @@ body-most INSTANCE s v l p = let h : Small s v l = small INSTANCE s v l p in ome
 body-most ISCC s v l p = let h : unitCount (setOf l) ≤ 5 = count-most (setOf l) in omega arith
 body-most ID s v l p = let h : Small s v l = small ID s v l p in omega arith
 
-pub set-small : (u : Set) → setNumber u ≤ 7
+pub set-small : (u : Set) → setLengthNumber u ≤ 7
 unfolding setOf sets
 set-small = each-set _ (lit≤ tt) (lit≤ tt) (lit≤ tt) (lit≤ tt) (lit≤ tt) (lit≤ tt) (lit≤ tt) (lit≤ tt)
 
 -- the table's row of a composite, by its set
-pub composite-permits : (s v : ℕ) (u : Set) → v ≡ 0 → compositeSubtype (setNumber u) s ≡ true → permits ISCC s v (setNumber u) ≡ true
+pub composite-permits : (s v : ℕ) (u : Set) → v ≡ 0 → compositeSubtype (setLengthNumber u) s ≡ true → permits ISCC s v (setLengthNumber u) ≡ true
 unfolding row
 composite-permits s v u z e = rw (eq-eqb v 0 z, e) (le-leb _ 7 (set-small u))
 
@@ -171,14 +171,14 @@ unfolding row
 permits-composite s v l e = both-true (compositeSubtype l s) (leb l 7) (both-true (eqb v 0) (row ISCC s l) e .1) .0
 
 -- the subtype by the set: 5 with neither SEMANTIC nor CONTENT, 6 with META alone, and else 0 to 4
-pub subtype-by-set : (s : ℕ) (u : Set) → compositeSubtype (setNumber u) s ≡ cond (u .semantic || u .content) (leb s 4) (eqb s (cond (u .meta) 6 5))
+pub subtype-by-set : (s : ℕ) (u : Set) → compositeSubtype (setLengthNumber u) s ≡ cond (u .semantic || u .content) (leb s 4) (eqb s (cond (u .meta) 6 5))
 unfolding compositeSubtype setOf sets
 subtype-by-set s = each-set _ refl refl refl refl refl refl refl refl
 
-pub subtype-low : (s : ℕ) (u : Set) → compositeSubtype (setNumber u) s ≡ true → (u .semantic || u .content) ≡ true → s ≤ 4
+pub subtype-low : (s : ℕ) (u : Set) → compositeSubtype (setLengthNumber u) s ≡ true → (u .semantic || u .content) ≡ true → s ≤ 4
 subtype-low s u e h = leb-true s 4 (rw h at (sym (subtype-by-set s u) ∙ e))
 
-pub subtype-fixed : (s : ℕ) (u : Set) → compositeSubtype (setNumber u) s ≡ true → (u .semantic || u .content) ≡ false → s ≡ cond (u .meta) 6 5
+pub subtype-fixed : (s : ℕ) (u : Set) → compositeSubtype (setLengthNumber u) s ≡ true → (u .semantic || u .content) ≡ false → s ≡ cond (u .meta) 6 5
 subtype-fixed s u e h = eqb-true s (cond (u .meta) 6 5) (rw h at (sym (subtype-by-set s u) ∙ e))
 
 -- a number that is no length number has the set of 0

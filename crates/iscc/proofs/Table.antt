@@ -1,5 +1,4 @@
 -- A rule for every number below n, from one test that antt computes; and the entries of a table that lists a function's values.
--- Assumes nothing.
 use Prim.Native.Nat.{ℕ, zero, suc, _+_, _<_}
 use mathlib.Core.Path.{_≡_, subst, sym, ap, _∙_}
 use mathlib.Core.Bool.{Bool, true, _&&_}

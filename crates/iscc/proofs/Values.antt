@@ -1,4 +1,4 @@
--- Two functions that antt computes to be the same on a range agree there. Assumes nothing.
+-- Two functions that antt computes to be the same on a range agree there.
 use Prim.Native.Nat.{ℕ, _+_, _-_, _≤_, _<_}
 use mathlib.Core.Path.{_≡_}
 use mathlib.Core.Bool.{true}

@@ -1,4 +1,4 @@
--- The laws of varnibbles. Assumes nothing.
+-- The laws of varnibbles.
 use Prim.Native.Nat.{ℕ, suc, _+_, _-_, _*_, _%_, _^_, _≤_, _<_}
 use mathlib.Core.Path.{_≡_, refl, _∙_, ap, subst}
 use mathlib.Core.Bool.{Bool, true, false, cond, _&&_, and-false}

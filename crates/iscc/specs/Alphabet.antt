@@ -1,5 +1,4 @@
 -- An alphabet of RFC 4648: a character for each digit of so many bits, without padding.
--- Assumes nothing.
 use Prim.Native.Nat.{ℕ, suc, _-_, _^_}
 use mathlib.Core.Bool.{Bool, true, false, _&&_, cond}
 use mathlib.Core.List.{List, [], _∷_, map}
@@ -23,7 +22,7 @@ abbrev pub folded : Bool → ℕ → ℕ
 folded true c = upper c
 folded false c = c
 
--- the first place of c in a list, or the list's length where it is not there
+-- the first index of c in a list, or the list's length where it is not there
 unfoldable pub indexOf : ℕ → List ℕ → ℕ
 indexOf c [] = 0
 indexOf c (x ∷ xs) = cond (eqb c x) 0 (suc (indexOf c xs))

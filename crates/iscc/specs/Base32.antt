@@ -1,5 +1,4 @@
 -- Base32 of RFC 4648, section 6: capitals are written, either case is read, and there is no padding.
--- Assumes nothing.
 use Prim.Native.Nat.{ℕ}
 use mathlib.Core.Bool.{true}
 use mathlib.Core.List.{List}

@@ -21,7 +21,7 @@ use Rattle.iscc.specs.Permitted.{Set, unitTypes}
 use Rattle.iscc.specs.Meaning.{Meaning, composite, Permitted}
 use Rattle.iscc.specs.Item.{Item, headerOf, itemBytes, readItem, readOne, unitBytes, writeUnit, meaningOf, itemOf}
 use Rattle.iscc.specs.Items.{readItems, itemsBytes, takesSubtype, joinedMeaning, joinedBytes, splitBytes, join, split}
-use Rattle.iscc.specs.Doors.{scheme, codeOf, meaningOfText, textOf, readCode, writeText, intake, writtenText, strict}
+use Rattle.iscc.specs.Doors.{scheme, itemsOfText, meaningOfText, textOf, readCode, writeText, intake, writtenText, strict}
 use Rattle.iscc.specs.Distance.{Distance, bitsOf, distance, ratioOf}
 use Rattle.iscc.specs.Exactly.{Exactly}
 use Rattle.iscc.specs.RefusalOrder.{intakeStages, strictStages, unitStages, headerStages, readStages, writeStages, writeUnitStages, writeHeaderStages, joinAllStages, oneStages, splitStages, distanceStages, readCodeStages, writeTextStages}
@@ -65,7 +65,7 @@ parsed r n = record { result = r; used = n }
 
 -- numbers that varnibbles can write
 abbrev Writable : Header → Type 0
-Writable h = (h .mainType ≤ 4679) × (h .subtype ≤ 4679) × (h .version ≤ 4679) × (h .lengthNo ≤ 4679)
+Writable h = (h .mainType ≤ 4679) × (h .subtype ≤ 4679) × (h .version ≤ 4679) × (h .lengthNumber ≤ 4679)
 
 -- The unit writer's bytes read back, whatever follows: the header that was written, and the body area's first bytes.
 pub record UnitBack (h : Header) (body out rest : List ℕ) : Type 0 where
@@ -150,6 +150,6 @@ pub record Demand3 : Type 1 where
   -- in at most 73 characters; what a text means is permitted.
   pub short : (t : List ℕ) (m : Meaning) → meaningOfText t ≡ accept m → Permitted m × (length (textOf m) ≤ 73)
   -- Any order of the same units in a list gives the same answer, refusal number included, from intake
-  pub anyOrder : (t u : List ℕ) (is js : List Item) (area : ℕ) → codeOf t ≡ accept is → codeOf u ≡ accept js → Reordered is js → intake t area ≡ intake u area
+  pub anyOrder : (t u : List ℕ) (is js : List Item) (area : ℕ) → itemsOfText t ≡ accept is → itemsOfText u ≡ accept js → Reordered is js → intake t area ≡ intake u area
   -- and from join.
   pub joinAnyOrder : (bs cs : List ℕ) (is js : List Item) (area : ℕ) → readItems bs ≡ accept is → readItems cs ≡ accept js → Reordered is js → join bs area ≡ join cs area

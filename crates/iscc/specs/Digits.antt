@@ -1,5 +1,4 @@
 -- Numbers as digits of v bits, the high digit first: bits (v = 1), nibbles (4), base32 (5), bytes (8).
--- Assumes nothing.
 use Prim.Native.Nat.{ℕ, zero, suc, _+_, _-_, _*_, _/_, _%_, _^_, _<_}
 use mathlib.Core.Bool.{Bool, true, _&&_}
 use mathlib.Core.List.{List, [], _∷_}

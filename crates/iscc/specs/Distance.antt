@@ -1,5 +1,4 @@
 -- Document 01, "Distance": n, the shorter body's bits; d, the differing bits among the first n; the ratio d / n.
--- Assumes nothing.
 use Prim.Native.Nat.{ℕ, _+_, _*_, min}
 use mathlib.Core.Bool.{Bool, true, false, cond, _&&_}
 use mathlib.Core.List.{List, [], _∷_, _++_}
@@ -19,11 +18,11 @@ unfoldable pub bitsOf : List ℕ → List ℕ
 bitsOf [] = []
 bitsOf (b ∷ bs) = digits 1 8 b ++ bitsOf bs
 
--- in how many places two lists of bits differ, as far as the shorter goes
-unfoldable pub differingPlaces : List ℕ → List ℕ → ℕ
-differingPlaces [] ys = 0
-differingPlaces (x ∷ xs) [] = 0
-differingPlaces (x ∷ xs) (y ∷ ys) = cond (eqb x y) 0 1 + differingPlaces xs ys
+-- in how many positions two lists of bits differ, as far as the shorter goes
+unfoldable pub differingPositions : List ℕ → List ℕ → ℕ
+differingPositions [] ys = 0
+differingPositions (x ∷ xs) [] = 0
+differingPositions (x ∷ xs) (y ∷ ys) = cond (eqb x y) 0 1 + differingPositions xs ys
 
 pub record Distance : Type 0 where
   pub d : ℕ
@@ -35,7 +34,7 @@ unfoldable pub ratioOf : ℕ → ℕ → Float
 ratioOf d n = div binary32 (ofInt binary32 (pos d)) (ofInt binary32 (pos n))
 
 unfoldable pub differingBits : List ℕ → List ℕ → ℕ
-differingBits x y = differingPlaces (bitsOf x) (bitsOf y)
+differingBits x y = differingPositions (bitsOf x) (bitsOf y)
 
 unfoldable pub comparedBits : List ℕ → List ℕ → ℕ
 comparedBits x y = 8 * min (length x) (length y)

@@ -1,11 +1,11 @@
 -- Document 01, "Reading text at intake": the text's cleaning, the intake door and the strict door.
--- Assumes nothing.
 use Prim.Native.Nat.{ℕ, _+_}
 use mathlib.Core.Bool.{Bool, true, false, cond, _&&_, _||_}
 use mathlib.Core.List.{List, [], _∷_, _++_, map}
 use lib.ListN.{length, take, drop}
 use lib.Dec.{eqb, leb, ltb}
 use Rattle.iscc.specs.Answer.{Answer, accept, _>>=_, _>>_, _otherwise_, areaAfter, written}
+use Rattle.iscc.specs.Lists.{sameBytes}
 use Rattle.iscc.specs.Refusals.{emptyText, longText, longRun, areaTooShort, otherText}
 use Rattle.iscc.specs.Ascii.{ascii}
 use Rattle.iscc.specs.Alphabet.{Alphabet, upper, encode, decode}
@@ -32,20 +32,13 @@ unfoldable pub trimEnd : List ℕ → List ℕ
 trimEnd [] = []
 trimEnd (c ∷ cs) = keep c (trimEnd cs)
 
--- two texts are the same
-unfoldable pub sameText : List ℕ → List ℕ → Bool
-sameText [] [] = true
-sameText [] (d ∷ ds) = false
-sameText (c ∷ cs) [] = false
-sameText (c ∷ cs) (d ∷ ds) = eqb c d && sameText cs ds
-
 -- the five characters ISCC:
 unfoldable pub scheme : List ℕ
 scheme = ascii "ISCC:"
 
 -- dropped once if they stand there in any letter case: how many characters that drops
 unfoldable pub schemeLength : List ℕ → ℕ
-schemeLength t = cond (sameText (map upper (take 5 t)) scheme) 5 0
+schemeLength t = cond (sameBytes (map upper (take 5 t)) scheme) 5 0
 
 -- all hyphens are dropped
 unfoldable pub dropHyphens : List ℕ → List ℕ
@@ -76,15 +69,15 @@ payload t = do
   decodeRun base32 80 (cleaned t)
 
 -- the code that a text holds: its items. 7, 8, 9 for each from the left
-unfoldable pub codeOf : List ℕ → Answer (List Item)
-codeOf t = do
+unfoldable pub itemsOfText : List ℕ → Answer (List Item)
+itemsOfText t = do
   bs ← payload t
   readItems bs
 
 -- what a text means, or the first refusal of those from 2 to 14
 unfoldable pub meaningOfText : List ℕ → Answer Meaning
 meaningOfText t = do
-  is ← codeOf t
+  is ← itemsOfText t
   meaningOfItems is
 
 -- the one text of a meaning: ISCC: and the capital base32 text of the one unit or composite
@@ -125,5 +118,5 @@ writtenText t area = take (written (intake t (length area))) (areaAfter (intake 
 unfoldable pub strict : List ℕ → Answer Meaning
 strict t = do
   m ← meaningOfText t
-  sameText (textOf m) t otherwise otherText
+  sameBytes (textOf m) t otherwise otherText
   accept m

@@ -1,5 +1,4 @@
 -- Raw headers (source documents 002 and 003): four varnibbles, and a zero nibble if they are odd in number.
--- Assumes nothing.
 use Prim.Native.Nat.{ℕ, _+_, _*_, _/_, _%_}
 use mathlib.Core.Bool.{_||_}
 use mathlib.Core.List.{List, [], _∷_, _++_}
@@ -13,7 +12,7 @@ pub record Header : Type 0 where
   pub mainType : ℕ
   pub subtype : ℕ
   pub version : ℕ
-  pub lengthNo : ℕ
+  pub lengthNumber : ℕ
 
 -- bytes as nibbles, and nibbles as bytes, with a zero nibble behind an odd last one
 unfoldable pub nibbles : List ℕ → List ℕ
@@ -26,7 +25,7 @@ packed (a ∷ []) = a * 16 ∷ []
 packed (a ∷ b ∷ ns) = (a * 16 + b) ∷ packed ns
 
 unfoldable pub headerBytes : Header → List ℕ
-headerBytes h = packed (varnibble (h .mainType) ++ varnibble (h .subtype) ++ varnibble (h .version) ++ varnibble (h .lengthNo))
+headerBytes h = packed (varnibble (h .mainType) ++ varnibble (h .subtype) ++ varnibble (h .version) ++ varnibble (h .lengthNumber))
 
 -- 17 for any of the four, then 15
 unfoldable pub rawHeader : Header → Answer (List ℕ)
@@ -34,7 +33,7 @@ rawHeader h = do
   a ← writeVarnibble (h .mainType)
   b ← writeVarnibble (h .subtype)
   c ← writeVarnibble (h .version)
-  d ← writeVarnibble (h .lengthNo)
+  d ← writeVarnibble (h .lengthNumber)
   accept (packed (a ++ b ++ c ++ d))
 
 abbrev pub writeHeader : Header → ℕ → Answer (List ℕ)
@@ -51,6 +50,6 @@ readHeader bs = do
   (eqb (n % 2) 0 || eqb (getD (nibbles bs) n 0) 0) otherwise badHeader
   accept
       (record {
-        result = record { mainType = a .result; subtype = b .result; version = c .result; lengthNo = d .result };
+        result = record { mainType = a .result; subtype = b .result; version = c .result; lengthNumber = d .result };
         used = (n + 1) / 2;
       })

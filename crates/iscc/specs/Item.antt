@@ -8,7 +8,7 @@ use Rattle.iscc.specs.Answer.{Answer, accept, _>>=_, _>>_, _otherwise_, 
 use Rattle.iscc.specs.Refusals.{notPermitted, shortBody, bytesLeftOver}
 use Rattle.iscc.specs.Varnibble.{Parsed}
 use Rattle.iscc.specs.Header.{Header, headerBytes, readHeader}
-use Rattle.iscc.specs.Permitted.{MainType, META, SEMANTIC, CONTENT, DATA, INSTANCE, ISCC, ID, number, mainTypeOf, isUnit, Set, setOf, setNumber, unitCount, permits, bodyBytes}
+use Rattle.iscc.specs.Permitted.{MainType, META, SEMANTIC, CONTENT, DATA, INSTANCE, ISCC, ID, number, mainTypeOf, isUnit, Set, setOf, setLengthNumber, unitCount, permits, bodyBytes}
 use Rattle.iscc.specs.Lists.{cut}
 use Rattle.iscc.specs.Meaning.{Meaning, unit, composite}
 
@@ -16,15 +16,15 @@ pub record Item : Type 0 where
   pub mainType : MainType
   pub subtype : ℕ
   pub version : ℕ
-  pub lengthNo : ℕ
+  pub lengthNumber : ℕ
   pub body : List ℕ
 
 abbrev pub headerOf : Item → Header
-headerOf i = record { mainType = number (i .mainType); subtype = i .subtype; version = i .version; lengthNo = i .lengthNo }
+headerOf i = record { mainType = number (i .mainType); subtype = i .subtype; version = i .version; lengthNumber = i .lengthNumber }
 
 -- the item of a header, with the name of its main type
 abbrev pub itemWith : MainType → Header → List ℕ → Item
-itemWith m h body = record { mainType = m; subtype = h .subtype; version = h .version; lengthNo = h .lengthNo; body = body }
+itemWith m h body = record { mainType = m; subtype = h .subtype; version = h .version; lengthNumber = h .lengthNumber; body = body }
 
 unfoldable pub itemBytes : Item → List ℕ
 itemBytes i = headerBytes (headerOf i) ++ i .body
@@ -34,12 +34,12 @@ unfoldable pub readItem : List ℕ → Answer (Parsed Item)
 readItem bs = do
   h ← readHeader bs
   m ← mainTypeOf (h .result .mainType)
-  permits m (h .result .subtype) (h .result .version) (h .result .lengthNo) otherwise notPermitted
-  leb (h .used + bodyBytes m (h .result .subtype) (h .result .lengthNo)) (length bs) otherwise shortBody
+  permits m (h .result .subtype) (h .result .version) (h .result .lengthNumber) otherwise notPermitted
+  leb (h .used + bodyBytes m (h .result .subtype) (h .result .lengthNumber)) (length bs) otherwise shortBody
   accept
       (record {
-        result = itemWith m (h .result) (take (bodyBytes m (h .result .subtype) (h .result .lengthNo)) (drop (h .used) bs));
-        used = h .used + bodyBytes m (h .result .subtype) (h .result .lengthNo);
+        result = itemWith m (h .result) (take (bodyBytes m (h .result .subtype) (h .result .lengthNumber)) (drop (h .used) bs));
+        used = h .used + bodyBytes m (h .result .subtype) (h .result .lengthNumber);
       })
 
 -- exactly one: 7, 8, 9, then 19
@@ -53,9 +53,9 @@ readOne bs = do
 unfoldable pub unitBytes : Header → List ℕ → Answer (List ℕ)
 unitBytes h body = do
   m ← mainTypeOf (h .mainType)
-  (isUnit m && permits m (h .subtype) (h .version) (h .lengthNo)) otherwise notPermitted
-  leb (bodyBytes m (h .subtype) (h .lengthNo)) (length body) otherwise shortBody
-  accept (headerBytes h ++ take (bodyBytes m (h .subtype) (h .lengthNo)) body)
+  (isUnit m && permits m (h .subtype) (h .version) (h .lengthNumber)) otherwise notPermitted
+  leb (bodyBytes m (h .subtype) (h .lengthNumber)) (length body) otherwise shortBody
+  accept (headerBytes h ++ take (bodyBytes m (h .subtype) (h .lengthNumber)) body)
 
 abbrev pub writeUnit : Header → List ℕ → ℕ → Answer (List ℕ)
 writeUnit h body area = into area (unitBytes h body)
@@ -76,22 +76,22 @@ meaningAs ISCC s v l body = compositeOf s v (setOf l) body
 meaningAs ID s v l body = unit ID s v body
 
 abbrev pub meaningOf : Item → Meaning
-meaningOf i = meaningAs (i .mainType) (i .subtype) (i .version) (i .lengthNo) (i .body)
+meaningOf i = meaningAs (i .mainType) (i .subtype) (i .version) (i .lengthNumber) (i .body)
 
 -- ---- the one item that has a meaning
 
 -- the length number of a unit's body of n bytes
-unfoldable pub lengthNoOf : MainType → ℕ → ℕ
-lengthNoOf META n = n / 4 - 1
-lengthNoOf SEMANTIC n = n / 4 - 1
-lengthNoOf CONTENT n = n / 4 - 1
-lengthNoOf DATA n = n / 4 - 1
-lengthNoOf INSTANCE n = n / 4 - 1
-lengthNoOf ISCC n = 0
-lengthNoOf ID n = n - 8
+unfoldable pub unitLengthNumber : MainType → ℕ → ℕ
+unitLengthNumber META n = n / 4 - 1
+unitLengthNumber SEMANTIC n = n / 4 - 1
+unitLengthNumber CONTENT n = n / 4 - 1
+unitLengthNumber DATA n = n / 4 - 1
+unitLengthNumber INSTANCE n = n / 4 - 1
+unitLengthNumber ISCC n = 0
+unitLengthNumber ID n = n - 8
 
 unfoldable pub itemOf : Meaning → Item
 itemOf (unit m s v body) =
-    record { mainType = m; subtype = s; version = v; lengthNo = lengthNoOf m (length body); body = body }
+    record { mainType = m; subtype = s; version = v; lengthNumber = unitLengthNumber m (length body); body = body }
 itemOf (composite s v units bodies) =
-    record { mainType = ISCC; subtype = s; version = v; lengthNo = setNumber units; body = flatten bodies }
+    record { mainType = ISCC; subtype = s; version = v; lengthNumber = setLengthNumber units; body = flatten bodies }

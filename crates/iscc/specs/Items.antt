@@ -125,7 +125,7 @@ join bs area = into area (joinedBytes bs)
 
 -- a unit of 64 bits
 abbrev pub unit64 : MainType → ℕ → List ℕ → Item
-unit64 m s body = record { mainType = m; subtype = s; version = 0; lengthNo = 1; body = body }
+unit64 m s body = record { mainType = m; subtype = s; version = 0; lengthNumber = 1; body = body }
 
 -- SEMANTIC and CONTENT take the composite's subtype, and the others 0
 abbrev pub unitWith : ℕ → MainType → List ℕ → Item

@@ -1,5 +1,4 @@
 -- Document 01, "Labels from both sides of the line": the statements; proofs/Labels.antt computes them.
--- Assumes nothing.
 use Prim.Native.Nat.{ℕ, _+_}
 use mathlib.Core.Path.{_≡_}
 use mathlib.Core.Bool.{false}
@@ -19,7 +18,7 @@ use Rattle.iscc.specs.Distance.{distance}
 use Rattle.iscc.specs.Lines.{lineProgram}
 
 abbrev header : ℕ → ℕ → ℕ → ℕ → Header
-header m s v l = record { mainType = m; subtype = s; version = v; lengthNo = l }
+header m s v l = record { mainType = m; subtype = s; version = v; lengthNumber = l }
 
 -- 0.28125 is 9 times 2 ^ -5
 abbrev nineThirtySeconds : Float

@@ -1,4 +1,5 @@
--- Document 01 as definitions, in its order.
+-- Document 01 as definitions: first what they are written with (refusals by name, answers, lists, text), then 01's sections in its
+-- order, then what is promised of them: the order of refusals, the demands, the code's types as their values, the labels.
 pub mod Refusals
 pub mod Answer
 pub mod Lists
@@ -19,5 +20,5 @@ pub mod Lines
 pub mod Exactly
 pub mod RefusalOrder
 pub mod Demands
-pub mod Forms
+pub mod Representation
 pub mod Labels

@@ -1,5 +1,4 @@
 -- Document 01, "Permitted headers and body lengths".
--- Assumes nothing.
 use Prim.Native.Nat.{ℕ, _+_, _*_}
 use mathlib.Core.Bool.{Bool, true, false, cond, _&&_}
 use mathlib.Core.List.{List, [], _∷_, _++_}
@@ -72,8 +71,8 @@ weight n true = n
 weight n false = 0
 
 -- 4 if META is in, plus 2 if SEMANTIC is in, plus 1 if CONTENT is in
-abbrev pub setNumber : Set → ℕ
-setNumber s = weight 4 (s .meta) + weight 2 (s .semantic) + weight 1 (s .content)
+abbrev pub setLengthNumber : Set → ℕ
+setLengthNumber s = weight 4 (s .meta) + weight 2 (s .semantic) + weight 1 (s .content)
 
 -- how many units are in
 abbrev pub unitCount : Set → ℕ

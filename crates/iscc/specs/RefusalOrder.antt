@@ -6,7 +6,7 @@ use lib.ListN.{length, getD, take, drop}
 use lib.Dec.{eqb, leb, ltb}
 use Rattle.iscc.specs.Refusals.{emptyText, longText, longRun, badCharacter, badCount, spareBits, badHeader, notPermitted, shortBody, notJoinable, not64Bits, mainTypeTwice, lacksDataOrInstance, subtypesDiffer, areaTooShort, otherText, numberTooLarge, noDistance, bytesLeftOver}
 use Rattle.iscc.specs.Answer.{Answer, accept, refuse}
-use Rattle.iscc.specs.Lists.{every}
+use Rattle.iscc.specs.Lists.{every, sameBytes}
 use Rattle.iscc.specs.Digits.{value, spareCount}
 use Rattle.iscc.specs.Alphabet.{Alphabet, digitIn, isDigit, encode, decode}
 use Rattle.iscc.specs.Base32.{base32}
@@ -15,7 +15,7 @@ use Rattle.iscc.specs.Header.{Header, nibbles, rawHeader, readHeader}
 use Rattle.iscc.specs.Permitted.{DATA, INSTANCE, ISCC, number, isUnit, typeOf, permits, bodyBytes}
 use Rattle.iscc.specs.Item.{Item, readItem, readOne, unitBytes}
 use Rattle.iscc.specs.Items.{sameType, joinable, is64Bits, otherType, sharedSubtype, has, readItems, joinedBytes, splitBytes}
-use Rattle.iscc.specs.Doors.{sameText, cleaned, payload, meaningOfText, textOf}
+use Rattle.iscc.specs.Doors.{cleaned, payload, meaningOfText, textOf}
 use Rattle.iscc.specs.Distance.{comparable}
 use Rattle.iscc.specs.Exactly.{Rule, rule, once, headHolds, RuleOn, ruleOn, inTurn, together, whereAccepted, after}
 
@@ -61,12 +61,12 @@ headerRules = ruleOn badHeader headerWhole ∷ ruleOn badHeader prefixesMean ∷
 abbrev pub headerPermitted : List ℕ → Bool
 headerPermitted bs =
     after (readHeader bs)
-    (λ h. ltb (h .result .mainType) 7 && permits (typeOf (h .result .mainType)) (h .result .subtype) (h .result .version) (h .result .lengthNo))
+    (λ h. ltb (h .result .mainType) 7 && permits (typeOf (h .result .mainType)) (h .result .subtype) (h .result .version) (h .result .lengthNumber))
 
 abbrev pub bodyThere : List ℕ → Bool
 bodyThere bs =
     after (readHeader bs)
-    (λ h. leb (h .used + bodyBytes (typeOf (h .result .mainType)) (h .result .subtype) (h .result .lengthNo)) (length bs))
+    (λ h. leb (h .used + bodyBytes (typeOf (h .result .mainType)) (h .result .subtype) (h .result .lengthNumber)) (length bs))
 
 abbrev pub itemRules : List (RuleOn (List ℕ))
 itemRules = headerRules ++ (ruleOn notPermitted headerPermitted ∷ ruleOn shortBody bodyThere ∷ [])
@@ -127,7 +127,7 @@ intakeStages t area = once areaTooShort (leb 73 area) ∷ doorStages t
 
 -- "The strict door has no output area: 2, 1, 3 to 14 as intake, then 16."
 unfoldable pub strictStages : List ℕ → List (List Rule)
-strictStages t = doorStages t ++ whereAccepted (meaningOfText t) (λ m. once otherText (sameText (textOf m) t) ∷ [])
+strictStages t = doorStages t ++ whereAccepted (meaningOfText t) (λ m. once otherText (sameBytes (textOf m) t) ∷ [])
 
 -- "The reader of one unit takes a composite too and answers 7, 8 or 9"
 unfoldable pub unitStages : List ℕ → List (List Rule)
@@ -150,14 +150,14 @@ writeStages a bs area = areaStages area (accept (encode a bs))
 unfoldable pub writeUnitStages : Header → List ℕ → ℕ → List (List Rule)
 writeUnitStages h body area =
     once notPermitted
-    (ltb (h .mainType) 7 && (isUnit (typeOf (h .mainType)) && permits (typeOf (h .mainType)) (h .subtype) (h .version) (h .lengthNo)))
-    ∷ once shortBody (leb (bodyBytes (typeOf (h .mainType)) (h .subtype) (h .lengthNo)) (length body))
+    (ltb (h .mainType) 7 && (isUnit (typeOf (h .mainType)) && permits (typeOf (h .mainType)) (h .subtype) (h .version) (h .lengthNumber)))
+    ∷ once shortBody (leb (bodyBytes (typeOf (h .mainType)) (h .subtype) (h .lengthNumber)) (length body))
     ∷ areaStages area (unitBytes h body)
 
 -- "The raw header writer tests 17, then 15.": 17 for any of the four numbers
 unfoldable pub writeHeaderStages : Header → ℕ → List (List Rule)
 writeHeaderStages h area =
-    rule numberTooLarge (λ j. headHolds (λ n. leb n 4679) (drop j (h .mainType ∷ h .subtype ∷ h .version ∷ h .lengthNo ∷ [])))
+    rule numberTooLarge (λ j. headHolds (λ n. leb n 4679) (drop j (h .mainType ∷ h .subtype ∷ h .version ∷ h .lengthNumber ∷ [])))
     ∷ areaStages area (rawHeader h)
 
 -- "Join reads bytes and tests 7 to 9 from the left, then, for one item only, 10 if it is a composite or ID, else 13; for more,

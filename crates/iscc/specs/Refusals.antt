@@ -1,5 +1,4 @@
 -- Document 01, "Numbers of refusal and their order": each number of the table, under a name.
--- Assumes nothing.
 use Prim.Native.Nat.{ℕ}
 use mathlib.Core.List.{List, [], _∷_}
 use Rattle.iscc.specs.declared.refusal.Refusal as declared
@@ -64,7 +63,7 @@ mainTypeTwice = refusal 12
 abbrev pub lacksDataOrInstance : Refusal
 lacksDataOrInstance = refusal 13
 
--- sEMANTIC and CONTENT differ in subtype
+-- SEMANTIC and CONTENT differ in subtype
 abbrev pub subtypesDiffer : Refusal
 subtypesDiffer = refusal 14
 

@@ -6,7 +6,6 @@
 --   110           3         9           72 to 583
 --   1110          4         12          584 to 4679
 --
--- Assumes nothing.
 use Prim.Native.Nat.{ℕ, _+_, _-_, _*_, _%_, _^_}
 use mathlib.Core.Bool.{cond}
 use mathlib.Core.List.{List, [], _∷_}

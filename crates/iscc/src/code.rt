@@ -2,7 +2,7 @@
 use crate::refusal::Refusal;
 
 // The longest code, a composite of all five units, in bytes.
-pub const MOST: usize = 42;
+pub const LONGEST_CODE: usize = 42;
 
 // The bytes of one unit or composite, filled up with zeros, and how many they are.
 pub struct Code {

@@ -3,7 +3,7 @@ ghost use mathlib.Core.Path.{_≡_};
 ghost use lib.Dec.{eqb};
 ghost use mathlib.Core.List.{map};
 ghost use Rattle.iscc.specs.Permitted.{mainTypeOf, mainTypes};
-ghost use Rattle.iscc.specs.Forms.{namedAs, mainTypeAs};
+ghost use Rattle.iscc.specs.Representation.{namedAs, mainTypeAs};
 use crate::refusal::Refusal;
 
 // A main type of document 01.

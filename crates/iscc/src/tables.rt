@@ -3,7 +3,7 @@ ghost use mathlib.Core.Path.{_≡_};
 ghost use Prim.Native.Nat.{_≤_};
 ghost use Rattle.iscc.specs.Base32.{base32};
 ghost use Rattle.iscc.specs.Permitted.{setOf};
-ghost use Rattle.iscc.specs.Forms.{unitSetAs};
+ghost use Rattle.iscc.specs.Representation.{unitSetAs};
 use crate::main_type::MainType;
 
 const ALPHABET: [u8; 32] = *b"ABCDEFGHIJKLMNOPQRSTUVWXYZ234567";
@@ -70,11 +70,11 @@ const SETS: [UnitSet; 8] = [
 ];
 
 // The units of a composite by its length number; of a number that is none, those of 0.
-pub fn unit_set(length: usize) -> UnitSet
-    ensures { λ r. ⌜ (r ≡ unitSetAs (setOf length)) × (r .count ≤ 5) ⌝ }
+pub fn unit_set(length_number: usize) -> UnitSet
+    ensures { λ r. ⌜ (r ≡ unitSetAs (setOf «length_number»)) × (r .count ≤ 5) ⌝ }
 {
-    if length < 8 {
-        return SETS[length];
+    if length_number < 8 {
+        return SETS[length_number];
     }
     SETS[0]
 }

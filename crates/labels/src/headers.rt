@@ -11,12 +11,12 @@ fn put(h: Header, out: &mut [u8]) {
     }
 }
 
-fn write(main_type: u32, subtype: u32, version: u32, length: u32) {
+fn write(main_type: u32, subtype: u32, version: u32, length_number: u32) {
     say::text(b"header writer");
     say::spaced(main_type);
     say::spaced(subtype);
     say::spaced(version);
-    say::spaced(length);
+    say::spaced(length_number);
     say::text(b": ");
     let mut out = [0u8; 8];
     put(
@@ -24,7 +24,7 @@ fn write(main_type: u32, subtype: u32, version: u32, length: u32) {
             main_type,
             subtype,
             version,
-            length,
+            length_number,
         },
         &mut out,
     );
@@ -35,7 +35,7 @@ fn numbers_of(h: Header) {
     say::number(say::wide(h.main_type));
     say::spaced(h.subtype);
     say::spaced(h.version);
-    say::spaced(h.length);
+    say::spaced(h.length_number);
 }
 
 fn read(bytes: &[u8]) {

@@ -15,7 +15,7 @@ fn item(u: Unit) {
     say::text(b", version");
     say::spaced(u.version);
     say::text(b", length");
-    say::spaced(u.length);
+    say::spaced(u.length_number);
     say::text(b", body from byte ");
     number(u.start);
     say::text(b" to ");

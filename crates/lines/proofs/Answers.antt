@@ -1,4 +1,4 @@
--- The answer to a line: its length, and its number where intake refuses. Assumes nothing.
+-- The answer to a line: its length, and its number where intake refuses.
 use Prim.Native.Nat.{ℕ, _+_, _/_, _%_, _≤_, _<_}
 use mathlib.Core.Bool.{Bool, true, false, cond}
 use mathlib.Core.Path.{_≡_, refl, sym, _∙_, ap}
@@ -10,12 +10,12 @@ use lib.Dec.{ltb}
 use borrow.Author.Tests.{le-leb, lt-leb}
 use Rattle.iscc.specs.Refusals.{Refusal, longText}
 use Rattle.iscc.specs.Answer.{Answer, accept, refuse, areaAfter}
-use Rattle.iscc.specs.Forms.{writtenAs}
+use Rattle.iscc.specs.Representation.{writtenAs}
 use Rattle.iscc.specs.declared.written.Written.{Written}
 use Rattle.iscc.specs.declared.written.Written.the-variants.{Length, Refused}
 use Rattle.iscc.specs.Item.{Item}
 use Rattle.iscc.specs.Items.{readItems}
-use Rattle.iscc.specs.Doors.{payload, codeOf, meaningOfText, textOf, intake}
+use Rattle.iscc.specs.Doors.{payload, itemsOfText, meaningOfText, textOf, intake}
 use Rattle.iscc.specs.Lines.{decimal, refusedWord, lineAnswer}
 use Rattle.iscc.specs.Exactly.{Rule, BrokenAt, First, whereAccepted}
 use Rattle.iscc.specs.RefusalOrder.{itemStage, digitStages, runStages, textStages, listStages, meaningStages, doorStages, intakeStages}
@@ -90,7 +90,7 @@ text-short t out e = accepted-value (meaningOfText t) textOf (λ o. length o ≤
 -- ---- a line of more than 1,024 bytes
 
 pub intake-long : (t : List ℕ) → 1024 < length t → intake t 73 ≡ refuse longText
-unfolding intake meaningOfText codeOf payload
+unfolding intake meaningOfText itemsOfText payload
 intake-long t h = rw (lt-leb (length t) 1024 h)
 
 pub answer-long : (t : List ℕ) → 1024 < length t → answerLine t ≡ lineAnswer (refuse longText) ++ (10 ∷ [])
@@ -136,7 +136,7 @@ module _ (t d a : List ℕ) (w : Written) (room : 74 ≤ length d) (answer : w �
       go (accept out) i l f =
           let k : n ≡ length out = cc in
           let s : length out ≤ 73 = text-short t out i in
-          let v : area.Written out d a n = record { count = sym k; room = omega arith; is = f ∙ ap (λ (j : ℕ). out ++ drop j d) (sym k) } in
+          let v : area.WrittenFront out d a n = record { count = sym k; room = omega arith; is = f ∙ ap (λ (j : ℕ). out ++ drop j d) (sym k) } in
           let r = all-written (one-written 10 v (omega arith)) in
           (omega (arith, length-written v), r .0, r .1)
       go (refuse q) i l f = let z : _≡_ {A = ℕ} 0 1 = cc in absurd (omega arith)

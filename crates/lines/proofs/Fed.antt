@@ -1,4 +1,4 @@
--- A piece taken line by line. Assumes nothing.
+-- A piece taken line by line.
 use Prim.Native.Nat.{ℕ, suc, _+_, _-_, _≤_, _<_}
 use mathlib.Core.Path.{_≡_, refl, sym, _∙_, ap}
 use mathlib.Core.Logic.{⊎-elim}
@@ -14,15 +14,15 @@ use borrow.Author.Tests.{le-leb, lt-leb}
 use Rattle.iscc.specs.Refusals.{areaTooShort}
 use Rattle.iscc.specs.Answer.{accept, _>>_, _otherwise_, areaAfter}
 use Rattle.iscc.specs.Lists.{firstNot}
-use Rattle.iscc.specs.Forms.{writtenAs}
+use Rattle.iscc.specs.Representation.{writtenAs}
 use Rattle.iscc.specs.declared.written.Written as code
 use Rattle.iscc.specs.declared.written.Written.the-variants.{Length, Refused}
-use Rattle.iscc.proofs.Area.{Written, nothing-written, length-written, all-written}
-use Rattle.iscc.proofs.Lent.{placed, more-written}
+use Rattle.iscc.proofs.Area.{WrittenFront, nothing-written, length-written, all-written}
+use Rattle.iscc.proofs.Filling.{overwritten, more-written}
 use Rattle.lines.specs.Feeding.{Feeding, notLF, answerLine, behind, nothingFed, feeding, fedBy, roomFor, fedAs, begunLine, heldFor, lineFor, finishing}
 use Rattle.lines.specs.declared.feed.Fed.{Fed}
 use Rattle.lines.proofs.Answers.{answer-short}
-use Rattle.lines.proofs.Held.{Kept, line-same, counted, count-some, begun-none}
+use Rattle.lines.proofs.Held.{LineKept, line-same, counted, count-some, begun-none}
 
 -- what is taken and answered in two steps
 twice : (m n : ℕ) (a b : List ℕ) (f : Feeding) → behind m a (behind n b f) ≡ behind (m + n) (a ++ b) f
@@ -84,7 +84,7 @@ pub record Sofar (d piece line : List ℕ) (held : ℕ) (after out : List ℕ) (
   pub count : kept ≡ heldFor (begunLine line kept)
   pub within : used ≤ length piece
   pub answers : List ℕ
-  pub wrote : Written answers d out written
+  pub wrote : WrittenFront answers d out written
   pub rest : feeding (length d) (begunLine line held) piece ≡ behind used answers (feeding (length d - written) (begunLine line kept) (drop used piece))
 
 -- what the contract of `feed` says of its work f
@@ -96,7 +96,7 @@ step m n p q cs ds e f g = rw (e, f, g)
 
 -- a part of the area comes back, with q in front of what it was
 lent-back : (out e q : List ℕ) (k m : ℕ) → k ≤ length out → m ≡ length q → e ≡ areaAfter (accept q) (take (length out - k) (drop k out))
-    → take k out ++ (e ++ drop (length out - k) (drop k out)) ≡ placed out k m q
+    → take k out ++ (e ++ drop (length out - k) (drop k out)) ≡ overwritten out k m q
 lent-back out e q k m h f g =
     let d : length (drop k out) ≤ length out - k = simp length-drop (omega arith) in
     let none : drop (length out - k) (drop k out) ≡ [] = drop-of-length-le (drop k out) d in
@@ -106,7 +106,7 @@ lent-back out e q k m h f g =
 
 -- the last bytes are taken and nothing more is answered
 ended : (d line after out : List ℕ) (held written used n : ℕ) (b answers : List ℕ) (f : Feeding) → f ≡ behind used answers (record { begun = b; used = n; answers = [] })
-    → Kept b line held after → Written answers d out written → Ended d f line (record { held = held; used = used + n; written = written }) after out
+    → LineKept b line held after → WrittenFront answers d out written → Ended d f line (record { held = held; used = used + n; written = written }) after out
 ended d line after out held written used n b answers f e k w =
     let a = all-written w in
     rw (e, append-nil) (rw (← k .0, ← a .0), (k .1, a .1))
@@ -130,7 +130,7 @@ module _ (d piece line : List ℕ) (held : ℕ) (after out : List ℕ) (kept use
 
   nothing : feeding (length d - written) (begunLine line kept) (drop used piece) ≡ nothingFed (begunLine line kept) → Now
   nothing e =
-      let k : Kept (begunLine line kept) line kept after = (s .count, s .same ∙ line-same line kept) in
+      let k : LineKept (begunLine line kept) line kept after = (s .count, s .same ∙ line-same line kept) in
       let z : used + 0 ≡ used = omega arith in
       let r = ended d line after out kept written used 0 (begunLine line kept) (s .answers) (feeding (length d) (begunLine line held) piece) (s .rest ∙ ap (behind used (s .answers)) e) k (s .wrote) in
       as-fed d piece line after out held _ (s .room) (rw z at r)

@@ -1,4 +1,4 @@
--- The line begun, as an area and a count keep it. Assumes nothing.
+-- The line begun, as an area and a count keep it.
 use Prim.Native.Nat.{ℕ, _+_, _-_, _≤_, _<_}
 use mathlib.Core.Path.{_≡_, refl, sym, _∙_, ap}
 use mathlib.Core.Bool.{Bool, true, false, cond}
@@ -157,26 +157,26 @@ module _ (line : List ℕ) (held : ℕ) where
 -- ---- a part is added
 
 -- the count and the area that keep a line q
-abbrev pub Kept : List ℕ → List ℕ → ℕ → List ℕ → Type 0
-Kept q line held after = (held ≡ heldFor q) × (after ≡ lineFor q line)
+abbrev pub LineKept : List ℕ → List ℕ → ℕ → List ℕ → Type 0
+LineKept q line held after = (held ≡ heldFor q) × (after ≡ lineFor q line)
 
-kept-long : (q line : List ℕ) → 1024 < length q → Kept q line 1025 line
+kept-long : (q line : List ℕ) → 1024 < length q → LineKept q line 1025 line
 kept-long q line h = (sym (held-long q h), sym (line-long q line h))
 
-kept-short : (q line : List ℕ) (n : ℕ) (after : List ℕ) → length q ≡ n → n ≤ 1024 → after ≡ q ++ drop n line → Kept q line n after
+kept-short : (q line : List ℕ) (n : ℕ) (after : List ℕ) → length q ≡ n → n ≤ 1024 → after ≡ q ++ drop n line → LineKept q line n after
 kept-short q line n after e h is =
     let l : length q ≤ 1024 = omega arith in
     (sym (held-short q l ∙ e), is ∙ sym (rw (line-short q line l, e)))
 
 module _ (line : List ℕ) (held : ℕ) (part : List ℕ) (room : 1024 ≤ length line) where
-  pub add-long : 1024 < held → Kept (begunLine line held ++ part) line 1025 line
+  pub add-long : 1024 < held → LineKept (begunLine line held ++ part) line 1025 line
   add-long h = kept-long _ line (rw (begun-long line held h, length-append) (omega (arith, length-overlong)))
 
-  pub add-over : held ≤ 1024 → 1024 - held < length part → Kept (begunLine line held ++ part) line 1025 line
+  pub add-over : held ≤ 1024 → 1024 - held < length part → LineKept (begunLine line held ++ part) line 1025 line
   add-over h l = kept-long _ line (rw (begun-short line held h, length-append, length-take-le held line (omega arith)) (omega arith))
 
   pub add-all : (i : ℕ) (after : List ℕ) → held ≤ 1024 → length part ≤ 1024 - held → length part ≤ i → i ≤ length part
-      → after ≡ paste line held part i → Kept (begunLine line held ++ part) line (held + i) after
+      → after ≡ paste line held part i → LineKept (begunLine line held ++ part) line (held + i) after
   add-all i after h l a b is =
       rw (begun-short line held h)
       (kept-short (take held line ++ part) line (held + i) after (rw (length-append, length-take-le held line (omega arith)) (omega arith)) (omega arith)

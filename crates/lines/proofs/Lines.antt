@@ -1,4 +1,4 @@
--- The line program on a line begun and what follows it. Assumes nothing.
+-- The line program on a line begun and what follows it.
 use Prim.Native.Nat.{ℕ, suc, _+_, _≤_, _<_}
 use mathlib.Core.Path.{_≡_, refl, sym, _∙_, ap}
 use mathlib.Core.Bool.{Bool, true, false, cond}

@@ -1,4 +1,4 @@
--- However the input is cut, the output is the line program's answer to it. Assumes nothing.
+-- However the input is cut, the output is the line program's answer to it.
 use Prim.Native.Nat.{ℕ, suc, _+_, _*_, _-_, _≤_, _<_}
 use mathlib.Core.Path.{_≡_, refl, sym, _∙_, ap}
 use mathlib.Core.Bool.{Bool, true, false, cond}
@@ -10,7 +10,7 @@ use lib.Seq.{append-snoc, take-length}
 use lib.Dec.{eqb, leb}
 use borrow.Author.Tests.{le-leb, leb-true, leb-false, eqb-true}
 use Rattle.iscc.specs.Refusals.{areaTooShort}
-use Rattle.iscc.specs.Forms.{writtenAs}
+use Rattle.iscc.specs.Representation.{writtenAs}
 use Rattle.iscc.specs.declared.written.Written.{Written}
 use Rattle.iscc.specs.declared.written.Written.the-variants.{Length}
 use Rattle.iscc.specs.Answer.{Answer, accept, refuse, _>>_, _otherwise_, areaAfter}

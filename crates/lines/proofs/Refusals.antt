@@ -1,4 +1,4 @@
--- The answer to a line that is refused, written byte by byte. Assumes nothing.
+-- The answer to a line that is refused, written byte by byte.
 use Prim.Native.Nat.{ℕ, _+_, _/_, _%_, _≤_, _<_}
 use mathlib.Core.Path.{_≡_, refl, sym, _∙_, ap}
 use mathlib.Core.List.{List, [], _∷_, _++_}
@@ -8,14 +8,14 @@ use borrow.Author.Tests.{lt-ltb, le-ltb}
 use Rattle.iscc.specs.Refusals.{Refusal}
 use Rattle.iscc.specs.Answer.{accept, refuse, areaAfter}
 use Rattle.iscc.specs.Lines.{decimal, refusedWord, lineAnswer}
-use Rattle.iscc.proofs.Area.{Written, one-written, all-written}
+use Rattle.iscc.proofs.Area.{WrittenFront, one-written, all-written}
 
 -- the answer's length and the area, once d was lent
 abbrev pub Refusing : Refusal → List ℕ → ℕ → List ℕ → Type 0
 Refusing q d n a = (n ≡ length (lineAnswer (refuse q) ++ (10 ∷ []))) × (a ≡ areaAfter (accept (lineAnswer (refuse q) ++ (10 ∷ []))) d)
 
 module _ (q : Refusal) (d area : List ℕ) (room : 11 ≤ length d) (word : area ≡ refusedWord ++ drop 8 d) where
-  begin : Written refusedWord d area 8
+  begin : WrittenFront refusedWord d area 8
   unfolding refusedWord
   begin = record { count = refl; room = omega arith; is = word }
 

@@ -1,6 +1,5 @@
 -- The line program (iscc's specs/Lines.antt) on one piece of its input after another: what is kept of the line begun, what a
 -- piece adds to the answers, and what the end of input adds.
--- Assumes nothing.
 use Prim.Native.Nat.{ℕ, _+_, _-_}
 use mathlib.Core.Path.{_≡_}
 use mathlib.Core.Bool.{Bool, not, cond}

@@ -1,5 +1,4 @@
 -- However the input is cut: what calls of `feed`, one after another, and then `finish` take and write.
--- Assumes nothing.
 use Prim.Native.Nat.{ℕ, _+_, _*_, _≤_, _<_}
 use mathlib.Core.Path.{_≡_}
 use mathlib.Core.List.{List, [], _∷_, _++_, map, flatten}

@@ -6,7 +6,7 @@ ghost use lib.ListN.{length};
 ghost use Rattle.iscc.specs.Answer.{accept, areaAfter};
 ghost use Rattle.lines.specs.Feeding.{answerLine, begunLine};
 use crate::begun;
-use crate::begun::LONGEST;
+use crate::begun::LONGEST_LINE;
 use crate::refused;
 use crate::scan::LF;
 use iscc::refusal::Refusal;
@@ -16,7 +16,7 @@ use iscc::written::Written;
 pub const ROOM: usize = 74;
 
 // Answers a line that is there in one piece, and says how many bytes that took.
-pub fn whole(text: &[u8], out: &mut [u8]) -> usize
+pub(crate) fn whole(text: &[u8], out: &mut [u8]) -> usize
     requires { ⌜ 74 ≤ length (now out) ⌝ }
     ensures answer { λ r. ⌜ r ≡ length (answerLine (now (text .entry))) ⌝ }
     ensures area { λ _. ⌜ now (out .exit) ≡ areaAfter (accept (answerLine (now (text .entry)))) (now (out .entry)) ⌝ }
@@ -31,13 +31,13 @@ pub fn whole(text: &[u8], out: &mut [u8]) -> usize
 }
 
 // Answers the line that the area and the count keep.
-pub fn kept(line: &[u8], held: usize, out: &mut [u8]) -> usize
+pub(crate) fn kept(line: &[u8], held: usize, out: &mut [u8]) -> usize
     requires { ⌜ 74 ≤ length (now out) ⌝ }
     ensures answer { λ r. ⌜ r ≡ length (answerLine (begunLine (now (line .entry)) held)) ⌝ }
     ensures area { λ _. ⌜ now (out .exit) ≡ areaAfter (accept (answerLine (begunLine (now (line .entry)) held))) (now (out .entry)) ⌝ }
 {
     let n = begun::count(line, held);
-    if LONGEST < n {
+    if LONGEST_LINE < n {
         return refused::write(Refusal::LONG_TEXT, out);
     }
     whole(&line[0..n], out)
@@ -56,7 +56,7 @@ fn copied(line: &[u8], held: usize, part: &[u8], out: &mut [u8]) -> usize
 }
 
 // Answers the line begun with its last part. A line without an earlier part is not copied.
-pub fn joined(line: &[u8], held: usize, part: &[u8], out: &mut [u8]) -> usize
+pub(crate) fn joined(line: &[u8], held: usize, part: &[u8], out: &mut [u8]) -> usize
     requires { ⌜ (74 ≤ length (now out)) × (1024 ≤ length (now line)) ⌝ }
     ensures answer { λ r. ⌜ r ≡ length (answerLine (begunLine (now (line .entry)) held ++ now (part .entry))) ⌝ }
     ensures area { λ _. ⌜ now (out .exit) ≡ areaAfter (accept (answerLine (begunLine (now (line .entry)) held ++ now (part .entry)))) (now (out .entry)) ⌝ }
@@ -64,7 +64,7 @@ pub fn joined(line: &[u8], held: usize, part: &[u8], out: &mut [u8]) -> usize
     if held == 0 {
         return whole(part, out);
     }
-    if LONGEST < held {
+    if LONGEST_LINE < held {
         return refused::write(Refusal::LONG_TEXT, out);
     }
     copied(line, held, part, out)

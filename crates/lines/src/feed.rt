@@ -2,12 +2,12 @@
 ghost use mathlib.Core.Path.{_≡_};
 ghost use lib.ListN.{length};
 ghost use Rattle.iscc.specs.Answer.{accept, areaAfter};
-ghost use Rattle.iscc.specs.Forms.{writtenAs};
+ghost use Rattle.iscc.specs.Representation.{writtenAs};
 ghost use Rattle.lines.specs.Feeding.{begunLine, lineFor, fedBy, fedAs, finishing};
 use crate::answer;
 use crate::answer::ROOM;
 use crate::begun;
-use crate::begun::LONGEST;
+use crate::begun::LONGEST_LINE;
 use crate::scan;
 use iscc::refusal::Refusal;
 use iscc::written::Written;
@@ -28,7 +28,7 @@ pub fn feed(line: &mut [u8], held: usize, piece: &[u8], out: &mut [u8]) -> Fed
     ensures area { λ _. ⌜ now (out .exit) ≡ areaAfter (accept (fedBy (now (line .entry)) held (now (piece .entry)) (length (now (out .entry))) .answers)) (now (out .entry)) ⌝ }
 {
     let mut kept = begun::count(line, held);
-    if line.len() < LONGEST {
+    if line.len() < LONGEST_LINE {
         return Fed {
             held: kept,
             used: 0,

@@ -23,7 +23,7 @@ fn put_word(out: &mut [u8])
 }
 
 // Writes the word, the number in decimal and LF to the front of the area, and answers how many bytes these are.
-pub fn write(q: Refusal, out: &mut [u8]) -> usize
+pub(crate) fn write(q: Refusal, out: &mut [u8]) -> usize
     requires { ⌜ (q .number < 100) × (11 ≤ length (now out)) ⌝ }
     ensures answer { λ r. ⌜ r ≡ length (lineAnswer (refuse q) ++ (10 ∷ [])) ⌝ }
     ensures area { λ _. ⌜ now (out .exit) ≡ areaAfter (accept (lineAnswer (refuse q) ++ (10 ∷ []))) (now (out .entry)) ⌝ }

@@ -1,11 +1,11 @@
 // Two byte strings: whether they are the same, and which comes first.
 ghost use mathlib.Core.Path.{_≡_};
-ghost use Rattle.iscc.specs.Doors.{sameText};
+ghost use Rattle.iscc.specs.Lists.{sameBytes};
 ghost use Rattle.octets.specs.Order.{before};
 
 // Whether two byte strings are the same. It tests the largest difference alone, so that the loop has no branch.
 pub fn same(a: &[u8], b: &[u8]) -> bool
-    ensures { λ r. ⌜ r ≡ sameText (now (a .entry)) (now (b .entry)) ⌝ }
+    ensures { λ r. ⌜ r ≡ sameBytes (now (a .entry)) (now (b .entry)) ⌝ }
 {
     if a.len() != b.len() {
         return false;

@@ -1,4 +1,4 @@
--- The calls' answers as C has them, by each case. Assumes nothing.
+-- The calls' answers as C has them, by each case.
 use Prim.Native.Nat.{ℕ}
 use mathlib.Core.Path.{_≡_, refl, sym, _∙_, ap}
 use mathlib.Core.List.{List}
@@ -9,7 +9,7 @@ use Rattle.iscc.specs.Refusals.{Refusal}
 use Rattle.iscc.specs.Permitted.{mainTypeOf}
 use Rattle.iscc.specs.Permitted as permitted
 use Rattle.iscc.specs.Item.{unitBytes, writeUnit}
-use Rattle.iscc.specs.Forms.{namedAs, writtenAs, outcomeAs}
+use Rattle.iscc.specs.Representation.{namedAs, writtenAs, outcomeAs}
 use Rattle.iscc.specs.declared.main_type.MainType.{MainType}
 use Rattle.iscc.specs.declared.main_type.Named.{Named}
 use Rattle.iscc.specs.declared.main_type.Named.the-variants as named
@@ -22,11 +22,11 @@ use Rattle.header.specs.declared.reader.RawHeader.{RawHeader}
 use Rattle.unit.specs.declared.reader.UnitRead.{UnitRead}
 use Rattle.unit.specs.declared.reader.UnitRead.the-variants as unit
 use Rattle.unit.specs.declared.reader.Unit.{Unit}
-use Rattle.header.specs.Forms.{noFields, headerFields}
-use Rattle.unit.specs.Forms.{unitFields}
-use Rattle.unit.specs.Forms as units
+use Rattle.header.specs.Representation.{noFields, headerFields}
+use Rattle.unit.specs.Representation.{unitFields}
+use Rattle.unit.specs.Representation as units
 use Rattle.probe.specs.declared.headers.Fields.{Fields}
-use Rattle.probe.specs.Forms.{headerOf, fieldsAs}
+use Rattle.probe.specs.Representation.{headerOf, fieldsAs}
 
 pub header-there : (r s : HeaderRead) (h : RawHeader) → r ≡ s → r ≡ header.Header h → fieldsAs (headerFields (header.Header h)) ≡ fieldsAs (headerFields s)
 header-there r s h e f = ap (λ (x : HeaderRead). fieldsAs (headerFields x)) (sym f ∙ e)
@@ -35,7 +35,7 @@ pub header-refused : (r s : HeaderRead) (q : Refusal) (k : Fields) → r ≡ s �
 header-refused r s q k e f g = g ∙ ap (λ (x : HeaderRead). fieldsAs (headerFields x)) (sym f ∙ e)
 
 pub unit-there : (r s : UnitRead) (u : Unit) (m : ℕ) → r ≡ s → r ≡ unit.Unit u → m ≡ u .«main_type» .number
-    → _≡_ {A = Fields} (record { number = 0; «main_type» = m; subtype = u .subtype; version = u .version; length = u .length; used = u .used }) (fieldsAs (unitFields s))
+    → _≡_ {A = Fields} (record { number = 0; «main_type» = m; subtype = u .subtype; version = u .version; «length_number» = u .«length_number»; used = u .used }) (fieldsAs (unitFields s))
 unit-there r s u m e f g = rw g (ap (λ (x : UnitRead). fieldsAs (unitFields x)) (sym f ∙ e))
 
 pub unit-refused : (r s : UnitRead) (q : Refusal) (k : Fields) → r ≡ s → r ≡ unit.Refused q → k ≡ fieldsAs (noFields (q .number)) → k ≡ fieldsAs (unitFields s)
@@ -69,10 +69,10 @@ module _ (n s v l : ℕ) (body : List ℕ) (area : ℕ) (r : Named) (q : Refusal
   no-write out = rw refuses
 
 module _ (n s v l : ℕ) (body out : List ℕ) (r : Named) (m : MainType) (e : r ≡ namedAs (mainTypeOf n)) (f : r ≡ named.MainType m) where
-  pub by-number : (w : Written) (o : Outcome) → w ≡ writtenAs (writeUnit (units.headerOf m s v l) body (length out)) → o ≡ outcomeAs w
+  pub by-number : (w : Written) (o : Outcome) → w ≡ writtenAs (writeUnit (units.headerWith m s v l) body (length out)) → o ≡ outcomeAs w
       → o ≡ outcomeAs (writtenAs (writeUnit (headerOf n s v l) body (length out)))
   by-number w o g h = h ∙ ap outcomeAs g ∙ rw (type-number n r m e f)
 
-  pub area-by-number : (after : List ℕ) → after ≡ areaAfter (writeUnit (units.headerOf m s v l) body (length out)) out
+  pub area-by-number : (after : List ℕ) → after ≡ areaAfter (writeUnit (units.headerWith m s v l) body (length out)) out
       → after ≡ areaAfter (writeUnit (headerOf n s v l) body (length out)) out
   area-by-number after g = g ∙ rw (type-number n r m e f)

@@ -3,9 +3,9 @@ ghost use mathlib.Core.Path.{_≡_};
 ghost use lib.ListN.{length};
 ghost use Rattle.iscc.specs.Answer.{areaAfter};
 ghost use Rattle.iscc.specs.Header.{readHeader, writeHeader};
-ghost use Rattle.iscc.specs.Forms.{writtenAs, outcomeAs};
-ghost use Rattle.probe.specs.Forms.{fieldsAs, headerOf};
-ghost use Rattle.header.specs.Forms.{headerReadAs, headerFields, noFields};
+ghost use Rattle.iscc.specs.Representation.{writtenAs, outcomeAs};
+ghost use Rattle.probe.specs.Representation.{fieldsAs, headerOf};
+ghost use Rattle.header.specs.Representation.{headerReadAs, headerFields, noFields};
 use header::Header;
 use header::reader::HeaderRead;
 use iscc::written::Outcome;
@@ -17,7 +17,7 @@ pub struct Fields {
     pub main_type: u32,
     pub subtype: u32,
     pub version: u32,
-    pub length: u32,
+    pub length_number: u32,
     pub used: usize,
 }
 
@@ -30,7 +30,7 @@ pub(crate) fn refused(number: u32) -> Fields
         main_type: 0,
         subtype: 0,
         version: 0,
-        length: 0,
+        length_number: 0,
         used: 0,
     }
 }
@@ -49,7 +49,7 @@ pub extern "C" fn probe_header_read(bytes: &[u8]) -> Fields
                 main_type: h.main_type,
                 subtype: h.subtype,
                 version: h.version,
-                length: h.length,
+                length_number: h.length_number,
                 used: raw.used,
             }
         }
@@ -71,7 +71,7 @@ pub extern "C" fn probe_header_write(
         main_type,
         subtype,
         version,
-        length: length_number,
+        length_number,
     };
     let answer = header::writer::write(h, out);
     answer.outcome()

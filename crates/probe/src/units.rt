@@ -3,9 +3,9 @@ ghost use mathlib.Core.Path.{_≡_};
 ghost use lib.ListN.{length};
 ghost use Rattle.iscc.specs.Answer.{areaAfter};
 ghost use Rattle.iscc.specs.Item.{readItem, writeUnit};
-ghost use Rattle.iscc.specs.Forms.{writtenAs, outcomeAs};
-ghost use Rattle.probe.specs.Forms.{fieldsAs, headerOf};
-ghost use Rattle.unit.specs.Forms.{unitReadAs, unitFields};
+ghost use Rattle.iscc.specs.Representation.{writtenAs, outcomeAs};
+ghost use Rattle.probe.specs.Representation.{fieldsAs, headerOf};
+ghost use Rattle.unit.specs.Representation.{unitReadAs, unitFields};
 use crate::headers::Fields;
 use iscc::main_type::MainType;
 use iscc::main_type::Named;
@@ -24,7 +24,7 @@ pub extern "C" fn probe_unit_read(bytes: &[u8]) -> Fields
             main_type: u.main_type.number(),
             subtype: u.subtype,
             version: u.version,
-            length: u.length,
+            length_number: u.length_number,
             used: u.used,
         },
     }

@@ -1,4 +1,4 @@
--- What callers of the reader may count on: the definitions' item behind a unit that was read, and its bounds. Assumes nothing.
+-- What callers of the reader may count on: the definitions' item behind a unit that was read, and its bounds.
 use Prim.Native.Nat.{ℕ, _+_, _-_, _≤_}
 use mathlib.Core.Path.{_≡_, refl, _∙_, ap, subst}
 use mathlib.Core.Bool.{true}
@@ -11,19 +11,19 @@ use Rattle.iscc.specs.Varnibble.{Parsed}
 use Rattle.iscc.specs.Header.{Header}
 use Rattle.iscc.specs.Permitted.{MainType, number, typeOf, permits, bodyBytes}
 use Rattle.iscc.specs.Item.{Item, readItem}
-use Rattle.iscc.specs.Forms.{mainTypeAs}
+use Rattle.iscc.specs.Representation.{mainTypeAs}
 use Rattle.iscc.proofs.Permitted.{number-small, type-number, Small, small, body-most}
 use Rattle.iscc.proofs.Item.{Behind, parsedItem, behind-header}
 use Rattle.header.proofs.Bounds.{header-bounds}
 use Rattle.unit.specs.declared.reader.Unit as code
 use Rattle.unit.specs.declared.reader.UnitRead.{UnitRead}
 use Rattle.unit.specs.declared.reader.UnitRead.the-variants as read
-use Rattle.unit.specs.Forms.{unitAs, unitReadAs}
+use Rattle.unit.specs.Representation.{unitAs, unitReadAs}
 
 -- an item that was read: a header of two bytes, then its body
 pub record ItemBounds (bs : List ℕ) (g : Parsed Item) : Type 0 where
-  pub permitted : permits (g .result .mainType) (g .result .subtype) (g .result .version) (g .result .lengthNo) ≡ true
-  pub size : length (g .result .body) ≡ bodyBytes (g .result .mainType) (g .result .subtype) (g .result .lengthNo)
+  pub permitted : permits (g .result .mainType) (g .result .subtype) (g .result .version) (g .result .lengthNumber) ≡ true
+  pub size : length (g .result .body) ≡ bodyBytes (g .result .mainType) (g .result .subtype) (g .result .lengthNumber)
   pub front : g .used ≡ 2 + length (g .result .body)
   pub within : g .used ≤ length bs
   pub most : g .used ≤ 42
@@ -31,11 +31,11 @@ pub record ItemBounds (bs : List ℕ) (g : Parsed Item) : Type 0 where
 
 bounds-behind : (bs : List ℕ) (h : Parsed Header) (m : MainType) → Behind bs h m → ItemBounds bs (parsedItem bs h m)
 bounds-behind bs h m b =
-    let s : Small (h .result .subtype) (h .result .version) (h .result .lengthNo) = small m (h .result .subtype) (h .result .version) (h .result .lengthNo) (b .permitted) in
+    let s : Small (h .result .subtype) (h .result .version) (h .result .lengthNumber) = small m (h .result .subtype) (h .result .version) (h .result .lengthNumber) (b .permitted) in
     let two : h .used ≡ 2 = header-bounds bs h (b .read) .short (omega (arith, number-small m, b .mainType)) (omega arith) (omega arith) (omega arith) in
-    let n : ℕ = bodyBytes m (h .result .subtype) (h .result .lengthNo) in
+    let n : ℕ = bodyBytes m (h .result .subtype) (h .result .lengthNumber) in
     let len : length (take n (drop (h .used) bs)) ≡ n = b .sized in
-    let short : n ≤ 40 = body-most m (h .result .subtype) (h .result .version) (h .result .lengthNo) (b .permitted) in
+    let short : n ≤ 40 = body-most m (h .result .subtype) (h .result .version) (h .result .lengthNumber) (b .permitted) in
     record { permitted = b .permitted; size = len; front = omega arith; within = b .within; most = omega arith; body = rw (len, two) }
 
 pub item-bounds : (bs : List ℕ) (g : Parsed Item) → readItem bs ≡ accept g → ItemBounds bs g
@@ -48,17 +48,17 @@ itemFrom bs u =
       mainType = typeOf (u .«main_type» .number);
       subtype = u .subtype;
       version = u .version;
-      lengthNo = u .length;
+      lengthNumber = u .«length_number»;
       body = take (u .used - u .start) (drop (u .start) bs);
     }
 
 pub record UnitIs (bs : List ℕ) (u : code.Unit) : Type 0 where
   pub is : readItem bs ≡ accept (record { result = itemFrom bs u; used = u .used })
-  pub permitted : permits (typeOf (u .«main_type» .number)) (u .subtype) (u .version) (u .length) ≡ true
+  pub permitted : permits (typeOf (u .«main_type» .number)) (u .subtype) (u .version) (u .«length_number») ≡ true
   pub named : mainTypeAs (typeOf (u .«main_type» .number)) ≡ u .«main_type»
   pub mainType : u .«main_type» .number ≤ 6
   pub start : u .start ≡ 2
-  pub size : u .used ≡ u .start + bodyBytes (typeOf (u .«main_type» .number)) (u .subtype) (u .length)
+  pub size : u .used ≡ u .start + bodyBytes (typeOf (u .«main_type» .number)) (u .subtype) (u .«length_number»)
   pub within : u .used ≤ length bs
   pub most : u .used ≤ 42
 

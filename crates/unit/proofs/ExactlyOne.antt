@@ -1,4 +1,4 @@
--- Exactly one item, by the reader's answer. Assumes nothing.
+-- Exactly one item, by the reader's answer.
 use Prim.Native.Nat.{ℕ, _+_, _-_, _≤_, _<_}
 use mathlib.Core.Path.{_≡_, refl, sym, _∙_, ap, subst}
 use mathlib.Core.Bool.{true}
@@ -17,7 +17,7 @@ use Rattle.iscc.specs.Item.{Item, readItem, readOne}
 use Rattle.unit.specs.declared.reader.Unit as code
 use Rattle.unit.specs.declared.reader.UnitRead.{UnitRead}
 use Rattle.unit.specs.declared.reader.UnitRead.the-variants as read
-use Rattle.unit.specs.Forms.{unitAs, unitReadAs, oneReadAs}
+use Rattle.unit.specs.Representation.{unitAs, unitReadAs, oneReadAs}
 use Rattle.unit.proofs.Bounds.{ItemBounds, item-bounds, UnitIs, unit-is, unit-refused}
 
 -- by the reader's answer r
@@ -46,8 +46,8 @@ module _ (bs : List ℕ) (r : UnitRead) (er : r ≡ unitReadAs (readItem bs)) wh
 
 -- the one item: a header of two bytes, then its body
 pub record OneBounds (bs : List ℕ) (i : Item) : Type 0 where
-  pub permitted : permits (i .mainType) (i .subtype) (i .version) (i .lengthNo) ≡ true
-  pub size : length (i .body) ≡ bodyBytes (i .mainType) (i .subtype) (i .lengthNo)
+  pub permitted : permits (i .mainType) (i .subtype) (i .version) (i .lengthNumber) ≡ true
+  pub size : length (i .body) ≡ bodyBytes (i .mainType) (i .subtype) (i .lengthNumber)
   pub whole : length bs ≡ 2 + length (i .body)
   pub most : length bs ≤ 42
   pub body : i .body ≡ drop 2 bs
@@ -76,11 +76,11 @@ pub record OneIs (bs : List ℕ) (u : code.Unit) : Type 0 where
   pub is : readOne bs ≡ accept item
   pub mainType : number (item .mainType) ≡ u .«main_type» .number
   pub subtype : item .subtype ≡ u .subtype
-  pub lengthNo : item .lengthNo ≡ u .length
-  pub permitted : permits (item .mainType) (item .subtype) (item .version) (item .lengthNo) ≡ true
+  pub lengthNumber : item .lengthNumber ≡ u .«length_number»
+  pub permitted : permits (item .mainType) (item .subtype) (item .version) (item .lengthNumber) ≡ true
   pub body : item .body ≡ drop (u .start) bs
   pub start : u .start ≡ 2
-  pub whole : length bs ≡ 2 + bodyBytes (item .mainType) (item .subtype) (item .lengthNo)
+  pub whole : length bs ≡ 2 + bodyBytes (item .mainType) (item .subtype) (item .lengthNumber)
   pub within : 2 ≤ length bs
   pub most : length bs ≤ 42
 
@@ -97,7 +97,7 @@ one-is bs u e = go (readOne bs) refl
           is = f;
           mainType = refl;
           subtype = refl;
-          lengthNo = refl;
+          lengthNumber = refl;
           permitted = b .permitted;
           body = rw s (b .body);
           start = s;

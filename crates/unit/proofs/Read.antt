@@ -1,4 +1,4 @@
--- What the reader's tests say of `readItem`. Assumes nothing.
+-- What the reader's tests say of `readItem`.
 use Prim.Native.Nat.{ℕ, _+_, _-_, _≤_, _<_}
 use mathlib.Core.Path.{_≡_, sym, _∙_, ap, subst}
 use mathlib.Core.Bool.{Bool, true, false, not}
@@ -15,7 +15,7 @@ use Rattle.iscc.specs.Header as iscc
 use Rattle.iscc.specs.Permitted.{number, typeOf, mainTypeOf, permits, bodyBytes}
 use Rattle.iscc.specs.Permitted as permitted
 use Rattle.iscc.specs.Item.{readItem}
-use Rattle.iscc.specs.Forms.{mainTypeAs, namedAs}
+use Rattle.iscc.specs.Representation.{mainTypeAs, namedAs}
 use Rattle.iscc.specs.declared.main_type.MainType.{MainType}
 use Rattle.iscc.specs.declared.main_type.Named.{Named}
 use Rattle.iscc.specs.declared.main_type.Named.the-variants as named
@@ -23,10 +23,10 @@ use Rattle.iscc.proofs.Permitted.{number-small, type-number, small}
 use Rattle.header.specs.declared.reader.RawHeader.{RawHeader}
 use Rattle.header.specs.declared.reader.HeaderRead.{HeaderRead}
 use Rattle.header.specs.declared.reader.HeaderRead.the-variants as header
-use Rattle.header.specs.Forms.{headerReadAs}
+use Rattle.header.specs.Representation.{headerReadAs}
 use Rattle.header.proofs.Bounds.{parsedFrom, read-as}
 use Rattle.unit.specs.declared.reader.UnitRead.the-variants.{Unit, Refused}
-use Rattle.unit.specs.Forms.{permitsAs, unitReadAs}
+use Rattle.unit.specs.Representation.{permitsAs, unitReadAs}
 
 -- what `MainType::from_number` tells
 pub record Known (r : Answer permitted.MainType) (m : MainType) : Type 0 where
@@ -55,7 +55,7 @@ unfolding permitsAs
 permitted-as m s v l e h = sym (e ∙ rw (lt-ltb (m .number) 7 h))
 
 pub length-small : (m : MainType) (s v l : ℕ) {p : Bool} → p ≡ permitsAs m s v l → m .number < 7 → not p ≡ false → l ≤ 7
-length-small m s v l {p} e h z = small (typeOf (m .number)) s v l (permitted-as m s v l e h ∙ not-false p z) .lengthNo
+length-small m s v l {p} e h z = small (typeOf (m .number)) s v l (permitted-as m s v l e h ∙ not-false p z) .lengthNumber
 
 -- what the header reader tells
 refused-as : (r : Answer (Parsed iscc.Header)) (q : Refusal) → headerReadAs r ≡ header.Refused q → r ≡ refuse q
@@ -79,7 +79,7 @@ module _ (bs : List ℕ) (h : RawHeader) (e : headerReadAs (readHeader bs) ≡ h
   v = h .header .version
 
   abbrev l : ℕ
-  l = h .header .length
+  l = h .header .«length_number»
 
   header-is : readHeader bs ≡ accept (parsedFrom h)
   header-is = read-as (readHeader bs) h e
@@ -109,7 +109,7 @@ module _ (bs : List ℕ) (h : RawHeader) (e : headerReadAs (readHeader bs) ≡ h
       item-short t = rw (header-is, type-is .is, permits-is, not-false p z, ← ek, lt-leb (h .used + k) (length bs) t)
 
       pub item-good : h .used + k ≤ length bs
-          → Unit (record { «main_type» = m; subtype = s; version = v; length = l; start = h .used; used = h .used + k }) ≡ unitReadAs (readItem bs)
+          → Unit (record { «main_type» = m; subtype = s; version = v; «length_number» = l; start = h .used; used = h .used + k }) ≡ unitReadAs (readItem bs)
       unfolding readItem
       item-good t =
           let n : length (take k (drop (h .used) bs)) ≡ k = length-take-le k (drop (h .used) bs) (simp length-drop (omega arith)) in

@@ -1,4 +1,4 @@
--- The table of permitted headers by the number of a main type. Assumes nothing.
+-- The table of permitted headers by the number of a main type.
 use Prim.Native.Nat.{ℕ, zero, suc, _+_, _*_, _<_}
 use mathlib.Core.Path.{_≡_, refl, sym, _∙_}
 use mathlib.Core.Bool.{Bool, true, false, not, _&&_, and-true, and-false}
@@ -10,9 +10,9 @@ use Rattle.iscc.specs.Permitted.{ISCC, number, typeOf, compositeSubtype, row, s
 use Rattle.iscc.specs.Permitted as permitted
 use Rattle.iscc.specs.declared.main_type.MainType.{MainType}
 use Rattle.iscc.specs.declared.tables.UnitSet.{UnitSet}
-use Rattle.iscc.specs.Forms.{unitSetAs}
+use Rattle.iscc.specs.Representation.{unitSetAs}
 use Rattle.iscc.proofs.Permitted.{number-small, type-number}
-use Rattle.unit.specs.Forms.{inRow, permitsAs}
+use Rattle.unit.specs.Representation.{inRow, permitsAs}
 
 -- the seven numbers
 pub seven : (P : ℕ → Type 0) → P 0 → P 1 → P 2 → P 3 → P 4 → P 5 → P 6 → (n : ℕ) → n < 7 → P n

@@ -1,4 +1,4 @@
--- What the writer's tests say of `writeUnit`. Assumes nothing.
+-- What the writer's tests say of `writeUnit`.
 use Prim.Native.Nat.{ℕ, _+_, _≤_, _<_}
 use mathlib.Core.Path.{_≡_, refl, sym, _∙_, ap}
 use mathlib.Core.Bool.{Bool, true, false, not, and-false}
@@ -14,14 +14,14 @@ use Rattle.iscc.specs.Refusals.{notPermitted, shortBody, areaTooShort}
 use Rattle.iscc.specs.Header.{Header, headerBytes, writeHeader}
 use Rattle.iscc.specs.Permitted.{typeOf, mainTypeOf, isUnit, permits, bodyBytes}
 use Rattle.iscc.specs.Item.{unitBytes, writeUnit}
-use Rattle.iscc.specs.Forms.{writtenAs}
+use Rattle.iscc.specs.Representation.{writtenAs}
 use Rattle.iscc.specs.declared.main_type.MainType.{MainType}
 use Rattle.iscc.specs.declared.written.Written.{Written}
 use Rattle.iscc.specs.declared.written.Written.the-variants.{Length, Refused}
 use Rattle.iscc.proofs.Booleans.{both-true}
 use Rattle.iscc.proofs.Header.{length-short, raw-header}
 use Rattle.iscc.proofs.Permitted.{Small, small}
-use Rattle.unit.specs.Forms.{permitsAs, headerOf}
+use Rattle.unit.specs.Representation.{permitsAs, headerWith}
 use Rattle.unit.proofs.Table.{seven, is-yes, is-no}
 
 -- every main type but a composite's is a unit's
@@ -50,7 +50,7 @@ module _ (m : MainType) (s v l : ℕ) {p : Bool} (e : p ≡ permitsAs m s v l) (
   numbers-small = small (typeOf (m .number)) s v l (both .1)
 
 -- a header of two bytes, written where they fit
-pub header-written : (h : Header) (d : List ℕ) → h .mainType < 8 → h .subtype < 8 → h .version < 8 → h .lengthNo < 8 → 2 ≤ length d
+pub header-written : (h : Header) (d : List ℕ) → h .mainType < 8 → h .subtype < 8 → h .version < 8 → h .lengthNumber < 8 → 2 ≤ length d
     → areaAfter (writeHeader h (length d)) d ≡ areaAfter (accept (headerBytes h)) d
 header-written h d a b c e l =
     let w : writeHeader h (length d) ≡ accept (headerBytes h) =
@@ -60,7 +60,7 @@ header-written h d a b c e l =
 -- the writer's cases
 module _ (m : MainType) (s v l : ℕ) (body d : List ℕ) where
   abbrev answer : Answer (List ℕ)
-  answer = writeUnit (headerOf m s v l) body (length d)
+  answer = writeUnit (headerWith m s v l) body (length d)
 
   abbrev Answers : Written → List ℕ → Type 0
   Answers r e = (r ≡ writtenAs answer) × (e ≡ areaAfter answer d)
@@ -70,7 +70,7 @@ module _ (m : MainType) (s v l : ℕ) (body d : List ℕ) where
   write-composite e h = rw (is-yes (m .number) 5 e h) (refl, refl)
 
   module _ {p : Bool} (ep : p ≡ permitsAs m s v l) where
-    not-unit : p ≡ false → unitBytes (headerOf m s v l) body ≡ refuse notPermitted
+    not-unit : p ≡ false → unitBytes (headerWith m s v l) body ≡ refuse notPermitted
     unfolding unitBytes permitsAs
     not-unit f =
         elim (decLt (m .number) 7) [
@@ -84,7 +84,7 @@ module _ (m : MainType) (s v l : ℕ) (body d : List ℕ) where
     write-8 f = rw (not-unit (not-true p f)) (refl, refl)
 
     module _ {t : Bool} (et : t ≡ eqb (m .number) 5) (unit : t ≡ false) (ok : not p ≡ false) {k : ℕ} (ek : k ≡ bodyBytes (typeOf (m .number)) s l) where
-      unit-is : unitBytes (headerOf m s v l) body ≡ (leb k (length body) otherwise shortBody >> accept (headerBytes (headerOf m s v l) ++ take k body))
+      unit-is : unitBytes (headerWith m s v l) body ≡ (leb k (length body) otherwise shortBody >> accept (headerBytes (headerWith m s v l) ++ take k body))
       unfolding unitBytes
       unit-is =
           let h : m .number < 7 = type-small m s v l ep ok in
@@ -94,19 +94,19 @@ module _ (m : MainType) (s v l : ℕ) (body d : List ℕ) where
       write-9 g = rw (unit-is, lt-leb k (length body) g) (refl, refl)
 
       module _ (g : k ≤ length body) where
-        bytes-are : unitBytes (headerOf m s v l) body ≡ accept (headerBytes (headerOf m s v l) ++ take k body)
+        bytes-are : unitBytes (headerWith m s v l) body ≡ accept (headerBytes (headerWith m s v l) ++ take k body)
         bytes-are = unit-is ∙ rw (le-leb k (length body) g)
 
-        size-is : length (headerBytes (headerOf m s v l) ++ take k body) ≡ 2 + k
+        size-is : length (headerBytes (headerWith m s v l) ++ take k body) ≡ 2 + k
         size-is =
             let b : Small s v l = numbers-small m s v l ep ok in
             let a : m .number < 7 = type-small m s v l ep ok in
-            let two : length (headerBytes (headerOf m s v l)) ≡ 2 = length-short (headerOf m s v l) (omega arith) (omega arith) (omega arith) (omega arith) in
+            let two : length (headerBytes (headerWith m s v l)) ≡ 2 = length-short (headerWith m s v l) (omega arith) (omega arith) (omega arith) (omega arith) in
             simp (length-append, length-take-le k body g) (omega arith)
 
         pub write-15 : length d < 2 + k → Answers (Refused areaTooShort) d
         write-15 f = rw (bytes-are, size-is, lt-leb (2 + k) (length d) f) (refl, refl)
 
         pub write-ok : {n : ℕ} {e : List ℕ} → 2 + k ≤ length d → n ≡ m .number
-            → e ≡ areaAfter (accept (headerBytes (record { mainType = n; subtype = s; version = v; lengthNo = l }) ++ take k body)) d → Answers (Length (2 + k)) e
+            → e ≡ areaAfter (accept (headerBytes (record { mainType = n; subtype = s; version = v; lengthNumber = l }) ++ take k body)) d → Answers (Length (2 + k)) e
         write-ok f en h = rw (bytes-are, size-is, le-leb (2 + k) (length d) f) (ap Length (sym size-is), rw en at h)

@@ -1,7 +1,7 @@
 // Reads bytes that must hold exactly one unit or composite.
 ghost use mathlib.Core.Path.{_≡_};
 ghost use Rattle.iscc.specs.Item.{readOne};
-ghost use Rattle.unit.specs.Forms.{oneReadAs};
+ghost use Rattle.unit.specs.Representation.{oneReadAs};
 use crate::reader;
 use crate::reader::UnitRead;
 use iscc::refusal::Refusal;

@@ -1,80 +1,80 @@
-// Document 01, "Permitted headers and body lengths", in one place.
+// Document 01, "Permitted headers and body lengths".
 ghost use mathlib.Core.Path.{_≡_};
 ghost use Prim.Native.Nat.{_≤_, _<_};
 ghost use mathlib.Core.Bool.{_&&_};
 ghost use lib.Dec.{leb};
 ghost use Rattle.iscc.specs.Permitted.{ISCC, typeOf, row, bodyBytes};
-ghost use Rattle.unit.specs.Forms.{inRow, permitsAs};
+ghost use Rattle.unit.specs.Representation.{inRow, permitsAs};
 use iscc::main_type::MainType;
 use iscc::tables;
 
 // Two numbers, each at most its limit.
-fn at_most(subtype: u32, highest: u32, length: u32, longest: u32) -> bool
-    ensures { λ r. ⌜ r ≡ (leb subtype highest && leb length longest) ⌝ }
+fn at_most(subtype: u32, highest: u32, length_number: u32, longest: u32) -> bool
+    ensures { λ r. ⌜ r ≡ (leb subtype highest && leb «length_number» longest) ⌝ }
 {
     if highest < subtype {
         return false;
     }
-    length <= longest
+    length_number <= longest
 }
 
 // A composite's row: subtype 5 for length 0, 6 for length 4, and otherwise 0 to 4.
-fn composite_row(subtype: u32, length: u32) -> bool
-    ensures { λ r. ⌜ r ≡ row ISCC subtype length ⌝ }
+fn composite_row(subtype: u32, length_number: u32) -> bool
+    ensures { λ r. ⌜ r ≡ row ISCC subtype «length_number» ⌝ }
 {
-    if length == 0 {
+    if length_number == 0 {
         return subtype == 5;
     }
-    if length == 4 {
+    if length_number == 4 {
         return subtype == 6;
     }
-    at_most(subtype, 4, length, 7)
+    at_most(subtype, 4, length_number, 7)
 }
 
 // The table's rows: subtype and length number of a main type. A main type without a row has neither.
-fn in_row(main_type: MainType, subtype: u32, length: u32) -> bool
-    ensures { λ r. ⌜ r ≡ inRow «main_type» subtype length ⌝ }
+fn in_row(main_type: MainType, subtype: u32, length_number: u32) -> bool
+    ensures { λ r. ⌜ r ≡ inRow «main_type» subtype «length_number» ⌝ }
 {
     if main_type.is(MainType::META) {
-        return at_most(subtype, 0, length, 7);
+        return at_most(subtype, 0, length_number, 7);
     }
     if main_type.is(MainType::SEMANTIC) {
-        return at_most(subtype, 4, length, 7);
+        return at_most(subtype, 4, length_number, 7);
     }
     if main_type.is(MainType::CONTENT) {
-        return at_most(subtype, 4, length, 7);
+        return at_most(subtype, 4, length_number, 7);
     }
     if main_type.is(MainType::DATA) {
-        return at_most(subtype, 0, length, 7);
+        return at_most(subtype, 0, length_number, 7);
     }
     if main_type.is(MainType::INSTANCE) {
-        return at_most(subtype, 0, length, 7);
+        return at_most(subtype, 0, length_number, 7);
     }
     if main_type.is(MainType::ISCC) {
-        return composite_row(subtype, length);
+        return composite_row(subtype, length_number);
     }
     if main_type.is(MainType::ID) {
-        return at_most(subtype, 5, length, 4);
+        return at_most(subtype, 5, length_number, 4);
     }
     false
 }
 
 // Whether the table permits a header. Version is always 0.
-pub fn permits(main_type: MainType, subtype: u32, version: u32, length: u32) -> bool
-    ensures { λ r. ⌜ r ≡ permitsAs «main_type» subtype version length ⌝ }
+pub fn permits(main_type: MainType, subtype: u32, version: u32, length_number: u32) -> bool
+    ensures { λ r. ⌜ r ≡ permitsAs «main_type» subtype version «length_number» ⌝ }
 {
-    if !in_row(main_type, subtype, length) {
+    if !in_row(main_type, subtype, length_number) {
         return false;
     }
     version == 0
 }
 
 // The bytes of a body, by the same columns.
-pub(crate) fn body_bytes(main_type: MainType, subtype: u32, length: u32) -> usize
-    requires { ⌜ («main_type» .number < 7) × (length ≤ 7) ⌝ }
-    ensures { λ r. ⌜ (r ≡ bodyBytes (typeOf («main_type» .number)) subtype length) × (r ≤ 40) ⌝ }
+pub(crate) fn body_bytes(main_type: MainType, subtype: u32, length_number: u32) -> usize
+    requires { ⌜ («main_type» .number < 7) × («length_number» ≤ 7) ⌝ }
+    ensures { λ r. ⌜ (r ≡ bodyBytes (typeOf («main_type» .number)) subtype «length_number») × (r ≤ 40) ⌝ }
 {
-    let n = length as usize;
+    let n = length_number as usize;
     if main_type.is(MainType::ISCC) {
         let set = tables::unit_set(n);
         return set.count * 8;

@@ -2,9 +2,9 @@
 ghost use mathlib.Core.Path.{_≡_};
 ghost use Rattle.iscc.specs.Header.{readHeader};
 ghost use Rattle.iscc.specs.Item.{readItem};
-ghost use Rattle.header.specs.Forms.{headerReadAs};
+ghost use Rattle.header.specs.Representation.{headerReadAs};
 ghost use Rattle.header.specs.declared.reader.HeaderRead.the-variants.{Header};
-ghost use Rattle.unit.specs.Forms.{unitReadAs};
+ghost use Rattle.unit.specs.Representation.{unitReadAs};
 use crate::permitted;
 use header::reader::HeaderRead;
 use header::reader::RawHeader;
@@ -17,7 +17,7 @@ pub struct Unit {
     pub main_type: MainType,
     pub subtype: u32,
     pub version: u32,
-    pub length: u32,
+    pub length_number: u32,
     pub start: usize,
     pub used: usize,
 }
@@ -37,17 +37,17 @@ fn item_of(bytes: &[u8], raw: RawHeader) -> UnitRead
     match named {
         Named::Refused(q) => UnitRead::Refused(q),
         Named::MainType(m) => {
-            if !permitted::permits(m, h.subtype, h.version, h.length) {
+            if !permitted::permits(m, h.subtype, h.version, h.length_number) {
                 return UnitRead::Refused(Refusal::NOT_PERMITTED);
             }
             let start = raw.used;
-            let used = start + permitted::body_bytes(m, h.subtype, h.length);
+            let used = start + permitted::body_bytes(m, h.subtype, h.length_number);
             if used <= bytes.len() {
                 return UnitRead::Unit(Unit {
                     main_type: m,
                     subtype: h.subtype,
                     version: h.version,
-                    length: h.length,
+                    length_number: h.length_number,
                     start,
                     used,
                 });

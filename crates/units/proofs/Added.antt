@@ -1,4 +1,4 @@
--- The numbers of a list with one item more are those that `added` makes. Assumes nothing.
+-- The numbers of a list with one item more are those that `added` makes.
 use Prim.Native.Nat.{ℕ, suc, _+_, _<_}
 use mathlib.Core.Path.{_≡_, refl, sym, _∙_}
 use mathlib.Core.Bool.{Bool, true, false, cond, not, _&&_}

@@ -1,4 +1,4 @@
--- The list reader on its way: the items so far, and what the rest adds to them. Assumes nothing.
+-- The list reader on its way: the items so far, and what the rest adds to them.
 use Prim.Native.Nat.{ℕ, zero, suc, _+_, _-_, _≤_, _<_}
 use mathlib.Core.Path.{_≡_, refl, sym, _∙_, ap, subst, subst⁻¹}
 use mathlib.Core.Bool.{false}
@@ -22,7 +22,7 @@ use Rattle.units.specs.declared.reader.Reading.the-variants as Reading
 use Rattle.unit.specs.declared.reader.Unit.{Unit}
 use Rattle.unit.specs.declared.reader.UnitRead.{UnitRead}
 use Rattle.unit.specs.declared.reader.UnitRead.the-variants as found
-use Rattle.unit.specs.Forms.{unitAs, unitReadAs}
+use Rattle.unit.specs.Representation.{unitAs, unitReadAs}
 use Rattle.unit.proofs.Bounds.{ItemBounds, item-bounds}
 use Rattle.units.specs.Summary.{Summarizes, emptySummary, added}
 use Rattle.units.specs.Reading.{leadingUpTo, leadingItems, refusedIndex, readingAs}

@@ -1,4 +1,4 @@
--- A list of items with one more behind: what its tests and its searches say. Assumes nothing.
+-- A list of items with one more behind: what its tests and its searches say.
 use Prim.Native.Nat.{ℕ}
 use mathlib.Core.Path.{_≡_, refl, _∙_}
 use mathlib.Core.Bool.{Bool, true, false, cond, not, _&&_, _||_, or-true}

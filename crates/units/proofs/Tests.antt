@@ -1,4 +1,4 @@
--- What closes a return against a definition that goes by tests: each test follows from a fact on the way there. Assumes nothing.
+-- What closes a return against a definition that goes by tests: each test follows from a fact on the way there.
 use Prim.Native.Nat.{ℕ, _+_, _≤_}
 use mathlib.Core.Path.{_≡_, refl, sym, _∙_, ap}
 use mathlib.Core.Bool.{Bool, true, false, cond, not, _&&_, _||_}

@@ -1,4 +1,4 @@
--- What the pass over a list keeps of the items read so far: as numbers, and what they mean. Assumes nothing.
+-- What the pass over a list keeps of the items read so far: as numbers, and what they mean.
 use Prim.Native.Nat.{ℕ, _+_, _≤_, _<_}
 use mathlib.Core.Path.{_≡_}
 use mathlib.Core.Bool.{Bool, true, cond, not, _&&_, _||_}

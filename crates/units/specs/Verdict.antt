@@ -1,4 +1,4 @@
--- The tests of a list, and the detail of the first that fails. Assumes nothing.
+-- The tests of a list, and the detail of the first that fails.
 use Prim.Native.Nat.{ℕ}
 use mathlib.Core.Bool.{Bool, cond, not}
 use mathlib.Core.List.{List, []}

@@ -1,4 +1,4 @@
--- `line_program::answer_all` is safe and ends. The measure is the number of turns that are left. Assumes nothing.
+-- `line_program::answer_all` is safe and ends. The measure is the number of turns that are left.
 use Prim.Native.Nat.{_≤_}
 use mathlib.Core.Path.{_≡_, _∙_}
 use native.Mathlib.Omega.{arith}

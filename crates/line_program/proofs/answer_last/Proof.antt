@@ -1,4 +1,4 @@
--- `line_program::answer_last` is safe and ends. Assumes nothing.
+-- `line_program::answer_last` is safe and ends.
 use borrow.Author.Needs.{needs}
 use lib.ListN.{length}
 use Rattle.lines.specs.Feeding.{begunLine, finishing}

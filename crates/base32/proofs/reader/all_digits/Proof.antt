@@ -1,4 +1,4 @@
--- `all_digits` meets its contract. The loop's invariant: `most` is the largest answer for the first i characters. Assumes nothing.
+-- `all_digits` meets its contract. The loop's invariant: `most` is the largest answer for the first i characters.
 use Prim.Native.Nat.{_-_}
 use mathlib.Core.Bool.{cond}
 use mathlib.Core.Path.{_∙_}

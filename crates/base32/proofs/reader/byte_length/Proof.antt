@@ -1,4 +1,4 @@
--- `byte_length` meets its contract. Assumes nothing.
+-- `byte_length` meets its contract.
 use native.Mathlib.Omega.{arith}
 use borrow.Author.Needs.{needs}
 use Rattle.iscc.specs.Digits.{byteCount}

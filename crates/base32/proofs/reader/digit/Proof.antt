@@ -1,4 +1,4 @@
--- `digit` meets its contract: antt computes it for every byte. Assumes nothing.
+-- `digit` meets its contract: antt computes it for every byte.
 use Prim.Native.Nat.{ℕ, _+_, _-_, _*_, _/_, _%_, _≤_, _<_}
 use mathlib.Core.Path.{_≡_, refl}
 use mathlib.Core.Bool.{Bool, true, not, _&&_, _||_}

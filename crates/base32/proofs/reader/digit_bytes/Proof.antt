@@ -1,4 +1,4 @@
--- `digit_bytes` meets its contract. Assumes nothing.
+-- `digit_bytes` meets its contract.
 use native.Mathlib.Omega.{arith}
 use borrow.Author.Needs.{needs}
 use lib.ListN.{take, drop}

@@ -1,4 +1,4 @@
--- `digit_of` meets its contract: antt computes the digit of each character of each range. Assumes nothing.
+-- `digit_of` meets its contract: antt computes the digit of each character of each range.
 use mathlib.Core.Path.{refl}
 use Prim.Native.Nat.{_+_, _-_}
 use native.Mathlib.Omega.{arith}

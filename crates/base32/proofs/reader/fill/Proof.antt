@@ -1,4 +1,4 @@
--- `fill` meets its contract. The loop's invariant: the first i characters are written, as o bytes. Assumes nothing.
+-- `fill` meets its contract. The loop's invariant: the first i characters are written, as o bytes.
 use Prim.Native.Nat.{ℕ, _-_, _+_, _*_, _/_, _%_, _≤_, _^_}
 use mathlib.Core.Path.{_≡_, refl}
 use mathlib.Core.List.{List, map}
@@ -8,7 +8,7 @@ use borrow.Author.Needs.{needs}
 use Rattle.iscc.specs.Digits.{digits, value, byteCount, spareCount}
 use Rattle.iscc.specs.Alphabet.{digitIn}
 use Rattle.iscc.specs.Base32.{base32}
-use Rattle.iscc.proofs.Area.{Written, length-written}
+use Rattle.iscc.proofs.Area.{WrittenFront, length-written}
 use Rattle.iscc.proofs.Groups.{Decoded, decoded-none, decoded-group, decoded-rest}
 use Rattle.base32.proofs.reader.fill.Statement.{statement}
 use Rattle.base32.proofs.reader.fill.Tie as tie
@@ -72,7 +72,7 @@ put-requires-2 c κs =
 done : (c : tie.After-put2 Inv-loop μ-loop) →
     let a = c .before .before .before .before .before .before .before .args in
     let n = length (a .text .now) in
-    Written (digits 8 (byteCount 5 n) (value 5 (map (digitIn base32) (a .text .now)) / 2 ^ spareCount 5 n)) (a .out .now) (c .put2 .last .1 .1 .0) (byteCount 5 n)
+    WrittenFront (digits 8 (byteCount 5 n) (value 5 (map (digitIn base32) (a .text .now)) / 2 ^ spareCount 5 n)) (a .out .now) (c .put2 .last .1 .1 .0) (byteCount 5 n)
 done c =
     let load = c .before .before in
     let at = load .before .before in

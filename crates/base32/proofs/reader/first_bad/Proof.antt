@@ -1,4 +1,4 @@
--- `first_bad` meets its contract. The loop's invariant: none of the first i characters is outside the alphabet. Assumes nothing.
+-- `first_bad` meets its contract. The loop's invariant: none of the first i characters is outside the alphabet.
 use Prim.Native.Nat.{_-_}
 use mathlib.Core.Path.{sym, _∙_}
 use lib.ListN.{length}

@@ -1,4 +1,4 @@
--- `load` meets its contract. The loop's invariant: the number is that of the first i digits. Assumes nothing.
+-- `load` meets its contract. The loop's invariant: the number is that of the first i digits.
 use Prim.Native.Nat.{ℕ, _-_, _+_, _≤_}
 use mathlib.Core.Path.{_≡_, sym, _∙_}
 use mathlib.Core.List.{List, map}

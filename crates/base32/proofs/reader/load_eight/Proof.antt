@@ -1,4 +1,4 @@
--- `load_eight` meets its contract. Assumes nothing.
+-- `load_eight` meets its contract.
 use native.Mathlib.Omega.{arith}
 use borrow.Author.Needs.{needs}
 use lib.ListN.{take, drop}

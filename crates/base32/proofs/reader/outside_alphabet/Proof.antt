@@ -1,4 +1,4 @@
--- `outside_alphabet` meets its contract. Assumes nothing.
+-- `outside_alphabet` meets its contract.
 use Prim.Native.Nat.{_*_}
 use mathlib.Core.Path.{ap₂, _∙_}
 use native.Mathlib.Omega.{arith}

@@ -1,4 +1,4 @@
--- `outside_range` meets its contract. Assumes nothing.
+-- `outside_range` meets its contract.
 use native.Mathlib.Omega.{arith}
 use Rattle.base32.proofs.Characters.{below-range, above-range, in-range}
 use Rattle.base32.proofs.reader.outside_range.Statement.{statement}

@@ -1,4 +1,4 @@
--- `put` meets its contract. The loop's invariant: the first i bytes stand there. Assumes nothing.
+-- `put` meets its contract. The loop's invariant: the first i bytes stand there.
 use Prim.Native.Nat.{_-_, _*_}
 use mathlib.Core.Path.{_≡_, _∙_}
 use mathlib.Core.List.{map-id}

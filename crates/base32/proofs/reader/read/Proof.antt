@@ -1,4 +1,4 @@
--- `read` meets its contract: at each return the tests settle what reading comes to. Assumes nothing.
+-- `read` meets its contract: at each return the tests settle what reading comes to.
 use Prim.Native.Nat.{_≤_}
 use mathlib.Core.Path.{_≡_, refl, sym, _∙_}
 use mathlib.Core.Bool.{true}
@@ -12,9 +12,9 @@ use Rattle.iscc.specs.Answer.{accept}
 use Rattle.iscc.specs.Alphabet.{isDigit, decode}
 use Rattle.iscc.specs.Base32.{base32}
 use Rattle.iscc.specs.Lists.{firstNot}
-use Rattle.iscc.proofs.Area.{Written, length-written}
+use Rattle.iscc.proofs.Area.{WrittenFront, length-written}
 use Rattle.iscc.proofs.FirstNot.{all-digits}
-use Rattle.iscc.proofs.Lent.{refused, too-short, filled}
+use Rattle.iscc.proofs.Filling.{refused, too-short, filled}
 use Rattle.iscc.proofs.Decoding.{bytesOf, length-bytes, refused-4, refused-5, refused-6, accepted}
 use Rattle.base32.proofs.reader.read.Statement.{statement}
 use Rattle.base32.proofs.reader.read.Tie as tie
@@ -66,7 +66,7 @@ fill-requires c κs =
 done : (c : tie.After-fill) →
     let b = c .before .before .before in
     let a = b .before .before .before .before .before .before .before .before .before .args in
-    Written (bytesOf base32 (a .text .now)) (a .out .now) (c .fill .last .1 .0) (b .byte-length .result)
+    WrittenFront (bytesOf base32 (a .text .now)) (a .out .now) (c .fill .last .1 .0) (b .byte-length .result)
 unfolding base32
 done c =
     let b = c .before .before .before in

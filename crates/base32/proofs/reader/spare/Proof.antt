@@ -1,4 +1,4 @@
--- `spare` meets its contract: by the last digit. Assumes nothing.
+-- `spare` meets its contract: by the last digit.
 use mathlib.Core.Path.{_≡_, refl, sym, _∙_, ap}
 use mathlib.Core.List.{List, [], _∷_, map}
 use Prim.Native.Nat.{ℕ, _+_, _-_, _*_, _/_, _%_, _^_, _<_}

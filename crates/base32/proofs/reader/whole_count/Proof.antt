@@ -1,4 +1,4 @@
--- `whole_count` meets its contract: 1, 3 and 6 over a multiple of 8, by `bad-count`. Assumes nothing.
+-- `whole_count` meets its contract: 1, 3 and 6 over a multiple of 8, by `bad-count`.
 use borrow.Author.Tests.{eq-eqb, ne-eqb}
 use Rattle.iscc.proofs.Base32.{bad-count}
 use Rattle.base32.proofs.reader.whole_count.Statement.{statement}

@@ -1,4 +1,4 @@
--- `word` meets its contract. Assumes nothing.
+-- `word` meets its contract.
 use borrow.Author.Needs.{needs}
 use Rattle.base32.proofs.Lanes.{two-fours}
 use Rattle.base32.proofs.reader.word.Statement.{statement}

@@ -1,4 +1,4 @@
--- `fill` meets its contract. The loop's invariant: the first i bytes are written, as o characters. Assumes nothing.
+-- `fill` meets its contract. The loop's invariant: the first i bytes are written, as o characters.
 use Prim.Native.Nat.{ℕ, _-_, _+_, _*_, _/_, _≤_, _<_}
 use mathlib.Core.Path.{_≡_, refl, _∙_}
 use native.Mathlib.Omega.{arith}
@@ -10,7 +10,7 @@ use Rattle.iscc.specs.Digits.{Below, digitCount}
 use Rattle.iscc.specs.Alphabet.{encode}
 use Rattle.iscc.specs.Base32.{base32}
 use Rattle.iscc.proofs.Digits.{below-all}
-use Rattle.iscc.proofs.Area.{Written, length-written}
+use Rattle.iscc.proofs.Area.{WrittenFront, length-written}
 use Rattle.iscc.proofs.Groups.{Encoded, encoded-none, encoded-group, encoded-rest}
 use Rattle.base32.proofs.writer.fill.Statement.{statement}
 use Rattle.base32.proofs.writer.fill.Tie as tie
@@ -78,7 +78,7 @@ put-requires-2 c κs =
 -- all is written
 done : (c : tie.After-put2 Inv-loop μ-loop) →
     let at = c .before .before .before .before .before in
-    Written (encode base32 (at .before .before .before .before .args .bytes .now)) (at .before .before .before .before .args .out .now) (c .put2 .last .1 .1 .1 .0) (digitCount 5 (length (at .before .before .before .before .args .bytes .now)))
+    WrittenFront (encode base32 (at .before .before .before .before .args .bytes .now)) (at .before .before .before .before .args .out .now) (c .put2 .last .1 .1 .1 .0) (digitCount 5 (length (at .before .before .before .before .args .bytes .now)))
 unfolding base32
 done c =
     let load = c .before .before in

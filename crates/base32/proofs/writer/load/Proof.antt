@@ -1,4 +1,4 @@
--- `load` meets its contract. The loop's invariant: the number is that of the first i bytes. Assumes nothing.
+-- `load` meets its contract. The loop's invariant: the number is that of the first i bytes.
 use Prim.Native.Nat.{_-_, _≤_}
 use mathlib.Core.Path.{sym, _∙_}
 use native.Mathlib.Omega.{arith}

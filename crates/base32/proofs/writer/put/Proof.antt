@@ -1,4 +1,4 @@
--- `put` meets its contract. The loop's invariant: the characters of the first i digits stand there. Assumes nothing.
+-- `put` meets its contract. The loop's invariant: the characters of the first i digits stand there.
 use Prim.Native.Nat.{_-_, _*_}
 use mathlib.Core.Path.{_≡_}
 use native.Mathlib.Omega.{arith}

@@ -1,4 +1,4 @@
--- `text_length` meets its contract. Assumes nothing.
+-- `text_length` meets its contract.
 use native.Mathlib.Omega.{arith}
 use borrow.Author.Needs.{needs}
 use Rattle.iscc.specs.Digits.{digitCount}

@@ -1,12 +1,12 @@
--- `write` meets its contract: by `too-short`, and by what `fill` writes. Assumes nothing.
+-- `write` meets its contract: by `too-short`, and by what `fill` writes.
 use mathlib.Core.Path.{refl, sym, _∙_}
 use native.Mathlib.Omega.{arith}
 use borrow.Author.Needs.{needs}
 use Rattle.iscc.specs.Alphabet.{encode}
 use Rattle.iscc.specs.Base32.{base32}
 use Rattle.iscc.proofs.Alphabet.{length-encode}
-use Rattle.iscc.proofs.Area.{Written, length-written}
-use Rattle.iscc.proofs.Lent.{too-short, filled}
+use Rattle.iscc.proofs.Area.{WrittenFront, length-written}
+use Rattle.iscc.proofs.Filling.{too-short, filled}
 use Rattle.base32.proofs.writer.write.Statement.{statement}
 use Rattle.base32.proofs.writer.write.Tie as tie
 
@@ -19,7 +19,7 @@ returns c =
 -- the text is written
 done : (c : tie.After-fill) →
     let a = c .before .before .before .before .before .before .args in
-    Written (encode base32 (a .bytes .now)) (a .out .now) (c .fill .last .1 .0) (c .before .before .before .text-length .result)
+    WrittenFront (encode base32 (a .bytes .now)) (a .out .now) (c .fill .last .1 .0) (c .before .before .before .text-length .result)
 unfolding base32
 done c =
     let t = c .before .before .before in

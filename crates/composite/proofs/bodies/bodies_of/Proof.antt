@@ -1,5 +1,4 @@
 -- `bodies::bodies_of` meets its contract: a walk of its MIR, by hand. The struct is passed into a local, and the field is read from there.
--- Assumes nothing.
 use mathlib.Core.Path.{refl, subst}
 use mathlib.Core.List.{[], _∷_, List}
 use Prim.Native.Nat.{ℕ}

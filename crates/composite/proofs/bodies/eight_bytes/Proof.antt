@@ -1,4 +1,4 @@
--- `eight_bytes` meets its contract. Assumes nothing.
+-- `eight_bytes` meets its contract.
 use mathlib.Core.Path.{sym}
 use native.Mathlib.Nat.{add-zero}
 use Rattle.composite.proofs.Parts.{elems-part}

@@ -1,5 +1,4 @@
 -- `bodies::from_parts` meets its contract: a walk of its MIR, by hand. The struct is built of the number and the bodies in the result's local.
--- Assumes nothing.
 use mathlib.Core.Path.{refl, sym, subst}
 use Prim.Native.Nat.{ℕ, _<_, _^_}
 use mathlib.Core.List.{[], _∷_, List}
@@ -40,7 +39,7 @@ use Rattle.composite.proofs.bodies.from_parts as from-parts
 use Rattle.composite.proofs.bodies.from_parts.Statement as stated
 use Rattle.composite.proofs.bodies.from_parts.Code as code
 
--- the bodies' place in the signature; nothing of it is kept for the exit
+-- where the bodies stand in the signature; nothing of it is kept for the exit
 abbrev rowsS : Slot 0
 rowsS = arrayOf (arrayOf (plain (λ _. u8)) 8) 5
 

@@ -1,4 +1,4 @@
--- `put` meets its contract. Assumes nothing.
+-- `put` meets its contract.
 use Rattle.composite.proofs.Parts.{put-back}
 use borrow.Author.Needs.{needs}
 use Rattle.composite.proofs.bodies.put.Statement.{statement}

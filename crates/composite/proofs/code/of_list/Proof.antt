@@ -4,7 +4,7 @@ use native.Mathlib.Omega.{arith}
 use Rattle.iscc.specs.Meaning.{Meaning}
 use Rattle.iscc.specs.Answer.{accept}
 use Rattle.iscc.specs.Item.{itemBytes, itemOf}
-use Rattle.iscc.specs.Forms.{codeAs}
+use Rattle.iscc.specs.Representation.{codeAs}
 use Rattle.iscc.proofs.Digits.{below-all}
 use Rattle.composite.specs.Bodies.{Makes}
 use Rattle.composite.specs.Joined.{composedBytes}

@@ -1,7 +1,7 @@
 -- `read` meets its contract: no list, one item, or more.
 use mathlib.Core.Path.{_∙_, sym, ap}
 use native.Mathlib.Omega.{arith}
-use Rattle.iscc.specs.Forms.{codeReadAs}
+use Rattle.iscc.specs.Representation.{codeReadAs}
 use Rattle.iscc.proofs.Digits.{below-all}
 use Rattle.composite.specs.Joined.{Listed}
 use Rattle.composite.specs.Canonical.{detailOf}

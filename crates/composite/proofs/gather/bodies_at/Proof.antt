@@ -1,4 +1,4 @@
--- `bodies_at` meets its contract: the bodies up to i are filled. Assumes nothing.
+-- `bodies_at` meets its contract: the bodies up to i are filled.
 use borrow.Author.Needs.{needs}
 use Prim.Native.Nat.{ℕ, _+_, _-_, _≤_}
 use mathlib.Core.Path.{_≡_, refl, _∙_, ap, subst⁻¹}

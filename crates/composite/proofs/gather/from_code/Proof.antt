@@ -1,4 +1,4 @@
--- `from_code` meets its contract. Assumes nothing.
+-- `from_code` meets its contract.
 use Prim.Native.Nat.{ℕ, _+_, _*_}
 use mathlib.Core.Path.{_∙_, ap}
 use native.Mathlib.Omega.{arith}

@@ -1,8 +1,8 @@
--- `from_list` meets its contract. Assumes nothing.
+-- `from_list` meets its contract.
 use Prim.Native.Nat.{ℕ}
 use mathlib.Core.Path.{_∙_, ap}
-use Rattle.iscc.specs.Permitted.{setOf, setNumber}
-use Rattle.iscc.specs.Forms.{unitSetAs}
+use Rattle.iscc.specs.Permitted.{setOf, setLengthNumber}
+use Rattle.iscc.specs.Representation.{unitSetAs}
 use Rattle.composite.specs.Bodies.{parts, setOfOffsets}
 use Rattle.composite.proofs.Made.{units-there, list-made}
 use borrow.Author.Needs.{needs}
@@ -12,14 +12,14 @@ use Rattle.composite.proofs.gather.from_list.Tie as tie
 bodies-at-requires : tie.Need-bodies-at-requires
 bodies-at-requires c κs =
     let k = c .before .before .before .before .pre in
-    (c .unit-set .ensures .1, λ i h. units-there _ _ (k .0) (k .1) _ (c .unit-set .ensures .0 ∙ ap (λ (n : ℕ). unitSetAs (setOf n)) (c .before .set-number .ensures .0)) i h)
+    (c .unit-set .ensures .1, λ i h. units-there _ _ (k .0) (k .1) _ (c .unit-set .ensures .0 ∙ ap (λ (n : ℕ). unitSetAs (setOf n)) (c .before .set-length-number .ensures .0)) i h)
 
 returns : tie.Need-returns
 returns c = λ m k.
-    let n = c .before .before .before .before .set-number .ensures .0 in
+    let n = c .before .before .before .before .set-length-number .ensures .0 in
     c .from-parts .ensures
     ∙ ap (λ (x : ℕ). parts x (c .before .subtype-of .result) (c .before .before .bodies-at .result)) n
-    ∙ ap (λ (x : ℕ). parts (setNumber (setOfOffsets (c .before .before .before .before .before .before .before .args .list .offsets))) x (c .before .before .bodies-at .result)) (c .before .subtype-of .ensures)
+    ∙ ap (λ (x : ℕ). parts (setLengthNumber (setOfOffsets (c .before .before .before .before .before .before .before .args .list .offsets))) x (c .before .before .bodies-at .result)) (c .before .subtype-of .ensures)
     ∙ list-made _ _ m k _ (c .before .before .before .unit-set .ensures .0 ∙ ap (λ (x : ℕ). unitSetAs (setOf x)) n) _ (c .before .before .bodies-at .ensures)
 
 pub from-list-spec : {M : Type 1} → statement M

@@ -1,4 +1,4 @@
--- `subtype_of` meets its contract. Assumes nothing.
+-- `subtype_of` meets its contract.
 use Rattle.composite.proofs.Made.{subtype-shared, subtype-5, subtype-6}
 use borrow.Author.Needs.{needs}
 use Rattle.composite.proofs.gather.subtype_of.Statement.{statement}

@@ -1,4 +1,4 @@
--- `weight_of` meets its contract. Assumes nothing.
+-- `weight_of` meets its contract.
 use borrow.Author.Tests.{eq-eqb, ne-eqb}
 use native.Mathlib.Omega.{arith}
 use Rattle.composite.proofs.gather.weight_of.Statement.{statement}

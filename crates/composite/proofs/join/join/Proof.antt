@@ -1,7 +1,7 @@
--- `join` meets its contract. Assumes nothing.
+-- `join` meets its contract.
 use mathlib.Core.Path.{refl, _∙_, sym, ap}
 use Rattle.iscc.specs.Answer.{refuse}
-use Rattle.iscc.proofs.Lent.{refused, answers-same}
+use Rattle.iscc.proofs.Filling.{refused, answers-same}
 use Rattle.composite.proofs.Joins.{listed-of, read-refused, join-refused, joins-one, joins-more}
 use borrow.Author.Needs.{needs}
 use Rattle.composite.proofs.join.join.Statement.{statement}

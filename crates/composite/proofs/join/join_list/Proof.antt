@@ -1,7 +1,7 @@
 -- `join_list` meets its contract: a refusal, 15, or the code copied to the area.
 use mathlib.Core.Path.{refl}
 use native.Mathlib.Omega.{arith}
-use Rattle.iscc.proofs.Lent.{refused}
+use Rattle.iscc.proofs.Filling.{refused}
 use Rattle.composite.specs.Joined.{composedBytes}
 use Rattle.composite.specs.Canonical.{detailOf}
 use Rattle.composite.proofs.CodeValue.{told-refused, code-within, copy-short, copy-done}

@@ -1,4 +1,4 @@
--- `single` meets its contract. Assumes nothing.
+-- `single` meets its contract.
 use borrow.Author.Tests.{eq-eqb, ne-eqb}
 use Rattle.composite.specs.Joined.{singleRefusal}
 use Rattle.composite.proofs.join.single.Statement.{statement}

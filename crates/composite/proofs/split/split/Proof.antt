@@ -1,6 +1,6 @@
--- `split` meets its contract. Assumes nothing.
+-- `split` meets its contract.
 use mathlib.Core.Path.{refl, _∙_, sym}
-use Rattle.iscc.proofs.Lent.{refused}
+use Rattle.iscc.proofs.Filling.{refused}
 use Rattle.unit.proofs.ExactlyOne.{one-not}
 use Rattle.composite.proofs.Units.{split-unread}
 use borrow.Author.Needs.{needs}

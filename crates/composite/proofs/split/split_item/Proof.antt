@@ -1,9 +1,9 @@
--- `split_item` meets its contract. Assumes nothing.
+-- `split_item` meets its contract.
 use mathlib.Core.Path.{refl, _∙_, sym}
 use native.Mathlib.Omega.{arith}
 use borrow.Author.Tests.{not-true, not-false, eqb-true}
 use Rattle.iscc.proofs.Digits.{below-all}
-use Rattle.iscc.proofs.Lent.{refused, answers-same}
+use Rattle.iscc.proofs.Filling.{refused, answers-same}
 use Rattle.unit.proofs.ExactlyOne.{one-is}
 use Rattle.composite.proofs.Units.{split-other, code-room, split-sound, split-whole}
 use borrow.Author.Needs.{needs}

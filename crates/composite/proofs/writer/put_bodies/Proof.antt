@@ -1,4 +1,4 @@
--- `put_bodies` meets its contract: the bodies up to i are laid. Assumes nothing.
+-- `put_bodies` meets its contract: the bodies up to i are laid.
 use borrow.Author.Needs.{needs}
 use Prim.Native.Nat.{ℕ, _≤_, _-_}
 use mathlib.Core.Path.{_≡_}

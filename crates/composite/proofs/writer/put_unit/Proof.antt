@@ -1,4 +1,4 @@
--- `put_unit` meets its contract. Assumes nothing.
+-- `put_unit` meets its contract.
 use Rattle.composite.proofs.Units.{unit-put}
 use borrow.Author.Needs.{needs}
 use Rattle.composite.proofs.writer.put_unit.Statement.{statement}

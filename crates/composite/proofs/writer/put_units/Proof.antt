@@ -1,4 +1,4 @@
--- `put_units` meets its contract: the units up to i are laid. Assumes nothing.
+-- `put_units` meets its contract: the units up to i are laid.
 use borrow.Author.Needs.{needs}
 use Prim.Native.Nat.{ℕ, _≤_, _-_}
 use mathlib.Core.Path.{_≡_}

@@ -1,4 +1,4 @@
--- `unit_subtype` meets its contract. Assumes nothing.
+-- `unit_subtype` meets its contract.
 use Rattle.composite.proofs.Units.{own-first, own-second, own-none}
 use borrow.Author.Needs.{needs}
 use Rattle.composite.proofs.writer.unit_subtype.Statement.{statement}

@@ -1,4 +1,4 @@
--- `write_units` meets its contract. Assumes nothing.
+-- `write_units` meets its contract.
 use mathlib.Core.Path.{refl}
 use Rattle.composite.specs.Code.{splitInto}
 use Rattle.composite.proofs.Bytes.{into-short, into-fits}

@@ -1,6 +1,6 @@
 -- `iscc_split` meets its contract: that of the call behind it.
 use borrow.Author.Needs.{needs}
-use Rattle.iscc.proofs.Forms.{outcome-is}
+use Rattle.iscc.proofs.Representation.{outcome-is}
 use Rattle.console.proofs.composites.iscc_split.Statement.{statement}
 use Rattle.console.proofs.composites.iscc_split.Tie as tie
 

@@ -1,7 +1,7 @@
--- `iscc_distance` meets its contract: that of the call behind it. Assumes nothing.
+-- `iscc_distance` meets its contract: that of the call behind it.
 use mathlib.Core.Path.{ap}
 use borrow.Author.Needs.{needs}
-use Rattle.console.specs.Forms.{distanceAnswerAs}
+use Rattle.console.specs.Representation.{distanceAnswerAs}
 use Rattle.console.proofs.distances.iscc_distance.Statement.{statement}
 use Rattle.console.proofs.distances.iscc_distance.Tie as tie
 

@@ -1,6 +1,6 @@
--- `iscc_intake` meets its contract: that of the call behind it. Assumes nothing.
+-- `iscc_intake` meets its contract: that of the call behind it.
 use borrow.Author.Needs.{needs}
-use Rattle.iscc.proofs.Forms.{outcome-is}
+use Rattle.iscc.proofs.Representation.{outcome-is}
 use Rattle.console.proofs.doors.iscc_intake.Statement.{statement}
 use Rattle.console.proofs.doors.iscc_intake.Tie as tie
 

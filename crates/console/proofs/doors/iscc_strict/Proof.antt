@@ -1,4 +1,4 @@
--- `iscc_strict` meets its contract: that of the call behind it. Assumes nothing.
+-- `iscc_strict` meets its contract: that of the call behind it.
 use borrow.Author.Needs.{needs}
 use Rattle.console.proofs.Laws.{taken, not-taken}
 use Rattle.console.proofs.doors.iscc_strict.Statement.{statement}

@@ -1,8 +1,8 @@
--- `refused` meets its contract: a float constant is its bit pattern, which computes. Assumes nothing.
+-- `refused` meets its contract: a float constant is its bit pattern, which computes.
 use mathlib.Core.Path.{refl}
 use lib.Ieee.{ofBits}
 use Rattle.iscc.specs.Distance.{distanceAnswer}
-use Rattle.distance.specs.Forms.{measuredAs}
+use Rattle.distance.specs.Representation.{measuredAs}
 use Rattle.distance.proofs.answer.refused.Statement.{statement}
 use Rattle.distance.proofs.answer.refused.Tie as tie
 

@@ -1,4 +1,4 @@
--- `compared` meets its contract. Assumes nothing.
+-- `compared` meets its contract.
 use borrow.Author.Needs.{needs}
 use native.Mathlib.Omega.{arith}
 use Rattle.iscc.specs.Distance.{comparedBits}

@@ -1,4 +1,4 @@
--- `differing` meets its contract. The loop's invariant: d is the differing bits of the first i bytes of each. Assumes nothing.
+-- `differing` meets its contract. The loop's invariant: d is the differing bits of the first i bytes of each.
 use Prim.Native.Nat.{ℕ, _+_, _*_, _-_, min, _≤_, _<_}
 use mathlib.Core.Path.{_≡_, sym, _∙_, ap, ap₂}
 use mathlib.Core.List.{List}
@@ -6,7 +6,7 @@ use native.Mathlib.Omega.{arith}
 use borrow.Author.Needs.{needs}
 use lib.ListN.{length, take, getD}
 use Rattle.iscc.specs.Digits.{digits}
-use Rattle.iscc.specs.Distance.{differingPlaces, differingBits}
+use Rattle.iscc.specs.Distance.{differingPositions, differingBits}
 use Rattle.iscc.proofs.Bits.{differ-none, differ-next, differ-all}
 use Rattle.distance.proofs.bits.differing.Statement.{statement}
 use Rattle.distance.proofs.bits.differing.Tie as tie
@@ -27,7 +27,7 @@ abbrev μ-loop : tie.MeasureT-loop
 start : (a b : List ℕ) (n : ℕ) → length a ≤ 40 → n ≡ min (length a) (length b) → Counted a b n 0 0
 start a b n h e = record { shorter = e; short = omega arith; within = omega arith; most = omega arith; is = sym (differ-none (take 0 b)) }
 
-next : (a b : List ℕ) (n d i r : ℕ) → Counted a b n d i → i < n → r ≡ differingPlaces (digits 1 8 (getD a i 0)) (digits 1 8 (getD b i 0)) → r ≤ 8
+next : (a b : List ℕ) (n d i r : ℕ) → Counted a b n d i → i < n → r ≡ differingPositions (digits 1 8 (getD a i 0)) (digits 1 8 (getD b i 0)) → r ≤ 8
     → Counted a b n (d + r) (i + 1)
 next a b n d i r w l e h =
     let x : i < length a = omega (arith, w .shorter) in

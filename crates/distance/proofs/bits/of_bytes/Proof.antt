@@ -1,4 +1,4 @@
--- `of_bytes` meets its contract: the ones of the exclusive or, at most 8. Assumes nothing.
+-- `of_bytes` meets its contract: the ones of the exclusive or, at most 8.
 use native.Mathlib.Omega.{arith}
 use Rattle.iscc.proofs.Bits.{ones-bytes, ones-most}
 use Rattle.distance.proofs.bits.of_bytes.Statement.{statement}

@@ -1,4 +1,4 @@
--- `against` meets its contract. Assumes nothing.
+-- `against` meets its contract.
 use borrow.Author.Needs.{needs}
 use Rattle.distance.proofs.Laws.{second-refused, second-read}
 use Rattle.distance.proofs.units.against.Statement.{statement}

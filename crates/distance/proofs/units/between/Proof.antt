@@ -1,4 +1,4 @@
--- `between` meets its contract. Assumes nothing.
+-- `between` meets its contract.
 use borrow.Author.Needs.{needs}
 use Rattle.distance.proofs.Laws.{not-comparable, measured, starts, body-short}
 use Rattle.distance.proofs.units.between.Statement.{statement}

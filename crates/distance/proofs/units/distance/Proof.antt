@@ -1,8 +1,8 @@
--- `distance` meets its contract. Assumes nothing.
+-- `distance` meets its contract.
 use mathlib.Core.Path.{_≡_}
 use borrow.Author.Needs.{needs}
 use Rattle.iscc.specs.Distance.{distance}
-use Rattle.distance.specs.Forms.{measuredAs}
+use Rattle.distance.specs.Representation.{measuredAs}
 use Rattle.distance.proofs.Laws.{first-refused, second-read, bounds, exact}
 use Rattle.distance.proofs.units.distance.Statement.{statement}
 use Rattle.distance.proofs.units.distance.Tie as tie

@@ -1,4 +1,4 @@
--- `of_bodies` meets its contract. Assumes nothing.
+-- `of_bodies` meets its contract.
 use Prim.Native.Nat.{ℕ}
 use mathlib.Core.Path.{_≡_}
 use borrow.Author.Needs.{needs}
@@ -6,7 +6,7 @@ use Rattle.iscc.specs.Answer.{accept}
 use Rattle.iscc.specs.Distance.{distanceAnswer}
 use Rattle.distance.specs.declared.answer.Distance.{Distance}
 use Rattle.distance.specs.declared.answer.Measured.{Measured}
-use Rattle.distance.specs.Forms.{distanceAs, measure, measuredAs}
+use Rattle.distance.specs.Representation.{distanceAs, measure, measuredAs}
 use Rattle.distance.proofs.units.of_bodies.Statement.{statement}
 use Rattle.distance.proofs.units.of_bodies.Tie as tie
 

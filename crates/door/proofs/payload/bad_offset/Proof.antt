@@ -1,4 +1,4 @@
--- `door::payload::bad_offset` meets its contract. Assumes nothing.
+-- `door::payload::bad_offset` meets its contract.
 use Rattle.door.proofs.Payloads.{bad-there, bad-nowhere}
 use borrow.Author.Needs.{needs}
 use Rattle.door.proofs.payload.bad_offset.Statement.{statement}

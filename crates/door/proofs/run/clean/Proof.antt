@@ -1,4 +1,4 @@
--- `door::run::clean` meets its contract. Assumes nothing.
+-- `door::run::clean` meets its contract.
 use Rattle.door.proofs.Offsets.{cleaned-is}
 use borrow.Author.Needs.{needs}
 use Rattle.door.proofs.run.clean.Statement.{statement}

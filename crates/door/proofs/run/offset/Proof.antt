@@ -1,4 +1,4 @@
--- `door::run::offset` meets its contract. Assumes nothing.
+-- `door::run::offset` meets its contract.
 use Rattle.door.proofs.Offsets.{offset-is}
 use borrow.Author.Needs.{needs}
 use Rattle.door.proofs.run.offset.Statement.{statement}

@@ -1,4 +1,4 @@
--- `door::run::offset_in` meets its contract. The loop's invariant: the offset is i and what is left of it from i on. Assumes nothing.
+-- `door::run::offset_in` meets its contract. The loop's invariant: the offset is i and what is left of it from i on.
 use Prim.Native.Nat.{_+_, _≤_, _-_}
 use mathlib.Core.Path.{_≡_}
 use native.Mathlib.Omega.{arith}

@@ -1,4 +1,4 @@
--- `door::run::without_hyphens` meets its contract. The loop's invariant: the run of the first i characters. Assumes nothing.
+-- `door::run::without_hyphens` meets its contract. The loop's invariant: the run of the first i characters.
 use Prim.Native.Nat.{_-_}
 use mathlib.Core.Path.{refl, _∙_}
 use mathlib.Core.List.{[]}

@@ -1,4 +1,4 @@
--- `door::scheme::capital` meets its contract. Assumes nothing.
+-- `door::scheme::capital` meets its contract.
 use Prim.Native.Nat.{_≤_, _<_}
 use native.Mathlib.Omega.{arith}
 use borrow.Author.Needs.{needs}

@@ -1,4 +1,4 @@
--- `door::scheme::scheme_length` meets its contract. The loop's invariant: the comparison from i on decides. Assumes nothing.
+-- `door::scheme::scheme_length` meets its contract. The loop's invariant: the comparison from i on decides.
 use Prim.Native.Nat.{_≤_, _-_}
 use mathlib.Core.Path.{refl}
 use native.Mathlib.Omega.{arith}

@@ -1,4 +1,4 @@
--- `door::span::typed_span` meets its contract. Assumes nothing.
+-- `door::span::typed_span` meets its contract.
 use mathlib.Core.Path.{refl}
 use Rattle.door.proofs.Offsets.{span-found}
 use borrow.Author.Needs.{needs}

@@ -1,4 +1,4 @@
--- `door::strict::strict` meets its contract. Assumes nothing.
+-- `door::strict::strict` meets its contract.
 use native.Mathlib.Omega.{arith}
 use Rattle.door.proofs.Doors.{own-fits, checked-same, checked-other, checked-refused}
 use borrow.Author.Needs.{needs}

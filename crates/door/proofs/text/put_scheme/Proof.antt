@@ -1,15 +1,15 @@
--- `door::text::put_scheme` meets its contract. The loop's invariant: the first i bytes are written. Assumes nothing.
+-- `door::text::put_scheme` meets its contract. The loop's invariant: the first i bytes are written.
 use Prim.Native.Nat.{_≤_, _-_}
 use native.Mathlib.Omega.{arith}
 use borrow.Author.Needs.{needs}
 use lib.ListN.{length, take}
 use Rattle.iscc.specs.Doors.{scheme}
-use Rattle.iscc.proofs.Area.{Written, nothing-written, length-written, copied-next, copied-all}
+use Rattle.iscc.proofs.Area.{WrittenFront, nothing-written, length-written, copied-next, copied-all}
 use Rattle.door.proofs.text.put_scheme.Statement.{statement}
 use Rattle.door.proofs.text.put_scheme.Tie as tie
 
 abbrev Inv-loop : tie.InvT-loop
-Inv-loop out₀ i₀ out i = (i ≤ 5) × (5 ≤ length out₀) × Written (take i scheme) out₀ out i
+Inv-loop out₀ i₀ out i = (i ≤ 5) × (5 ≤ length out₀) × WrittenFront (take i scheme) out₀ out i
 
 abbrev μ-loop : tie.MeasureT-loop
 μ-loop out₀ i₀ out i = 5 - i

@@ -1,4 +1,4 @@
--- `door::trim::blanks` meets its contract. The loop's invariant: the blanks from i on are those that are left. Assumes nothing.
+-- `door::trim::blanks` meets its contract. The loop's invariant: the blanks from i on are those that are left.
 use Prim.Native.Nat.{_+_, _≤_, _-_}
 use mathlib.Core.Path.{_≡_}
 use native.Mathlib.Omega.{arith}

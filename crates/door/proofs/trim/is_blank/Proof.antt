@@ -1,4 +1,4 @@
--- `door::trim::is_blank` meets its contract. Assumes nothing.
+-- `door::trim::is_blank` meets its contract.
 use Prim.Native.Nat.{ℕ}
 use mathlib.Core.Path.{_≡_}
 use lib.Dec.{eqb}

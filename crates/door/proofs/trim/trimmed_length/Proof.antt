@@ -1,4 +1,4 @@
--- `door::trim::trimmed_length` meets its contract. The loop's invariant: the first i characters have the same trimmed text. Assumes nothing.
+-- `door::trim::trimmed_length` meets its contract. The loop's invariant: the first i characters have the same trimmed text.
 use Prim.Native.Nat.{_≤_}
 use mathlib.Core.Path.{_≡_, ap}
 use borrow.Author.Needs.{needs}

@@ -1,4 +1,4 @@
--- `is_short` meets its contract, a test a return. Assumes nothing.
+-- `is_short` meets its contract, a test a return.
 use borrow.Author.Tests.{lt-ltb, le-ltb}
 use Rattle.header.proofs.reader.is_short.Statement.{statement}
 use Rattle.header.proofs.reader.is_short.Tie as tie

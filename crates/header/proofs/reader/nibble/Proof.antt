@@ -1,4 +1,4 @@
--- `nibble` meets its contract: the laws of a place and its half. Assumes nothing.
+-- `nibble` meets its contract: the laws of an index and its half.
 use native.Mathlib.Omega.{arith}
 use borrow.Author.Needs.{needs}
 use Rattle.header.proofs.Nibbles.{nibble-past, nibble-even, nibble-odd}

@@ -1,4 +1,4 @@
--- `number_at` meets its contract: a law of `readVarnibble` for each return. Assumes nothing.
+-- `number_at` meets its contract: a law of `readVarnibble` for each return.
 use native.Mathlib.Omega.{arith}
 use native.Mathlib.Nat.{mod-lt}
 use borrow.Author.Needs.{needs}

@@ -1,4 +1,4 @@
--- `padded` meets its contract: each test follows from the branch taken. Assumes nothing.
+-- `padded` meets its contract: each test follows from the branch taken.
 use borrow.Author.Needs.{needs}
 use Rattle.header.proofs.Cases.{tests}
 use Rattle.header.proofs.reader.padded.Statement.{statement}

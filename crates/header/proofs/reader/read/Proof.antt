@@ -1,4 +1,4 @@
--- `read` meets its contract: a short header by its law, any other by `read_any`. Assumes nothing.
+-- `read` meets its contract: a short header by its law, any other by `read_any`.
 use borrow.Author.Needs.{needs}
 use Rattle.header.proofs.Short.{short-there}
 use Rattle.header.proofs.reader.read.Statement.{statement}

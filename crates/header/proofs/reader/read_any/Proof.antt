@@ -1,4 +1,4 @@
--- `read_any` meets its contract: a law of `readHeader` for each return. Assumes nothing.
+-- `read_any` meets its contract: a law of `readHeader` for each return.
 use native.Mathlib.Omega.{arith}
 use borrow.Author.Needs.{needs}
 use Rattle.header.proofs.Read.{bad-first, bad-second, bad-third, bad-fourth, bad-pad, header-good}

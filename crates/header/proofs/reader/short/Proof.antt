@@ -1,8 +1,8 @@
--- `short` meets its contract. Assumes nothing.
+-- `short` meets its contract.
 use Prim.Native.Nat.{ℕ}
 use mathlib.Core.Path.{_≡_}
 use borrow.Author.Needs.{needs}
-use Rattle.header.specs.Forms.{shortHeader}
+use Rattle.header.specs.Representation.{shortHeader}
 use Rattle.header.proofs.reader.short.Statement.{statement}
 use Rattle.header.proofs.reader.short.Tie as tie
 

@@ -1,4 +1,4 @@
--- `value_at` meets its contract. The loop's invariant: v is the value of the nibbles passed. Assumes nothing.
+-- `value_at` meets its contract. The loop's invariant: v is the value of the nibbles passed.
 use Prim.Native.Nat.{ℕ, _-_, _^_, _≤_, _<_}
 use mathlib.Core.Path.{_≡_, refl, _∙_, ap}
 use native.Mathlib.Omega.{arith}

@@ -1,4 +1,4 @@
--- `row_by` meets its contract: each test follows from the branch taken. Assumes nothing.
+-- `row_by` meets its contract: each test follows from the branch taken.
 use borrow.Author.Needs.{needs}
 use Rattle.iscc.specs.Varnibble.{firstOf, prefixOf, rowBy}
 use Rattle.header.proofs.Cases.{tests}

@@ -1,4 +1,4 @@
--- `row_of` meets its contract: each test follows from the branch taken. Assumes nothing.
+-- `row_of` meets its contract: each test follows from the branch taken.
 use borrow.Author.Needs.{needs}
 use native.Mathlib.Omega.{arith}
 use Rattle.iscc.specs.Varnibble.{firstOf, prefixOf, rowOf}

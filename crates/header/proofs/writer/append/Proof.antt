@@ -1,4 +1,4 @@
--- `append` meets its contract: the digits of both numbers, one behind the other. Assumes nothing.
+-- `append` meets its contract: the digits of both numbers, one behind the other.
 use native.Mathlib.Omega.{arith}
 use borrow.Author.Needs.{needs}
 use Rattle.header.proofs.Write.{append-is, append-lt, append-fits}

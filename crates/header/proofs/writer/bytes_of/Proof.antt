@@ -1,4 +1,4 @@
--- `bytes_of` meets its contract: two nibbles a byte. Assumes nothing.
+-- `bytes_of` meets its contract: two nibbles a byte.
 use native.Mathlib.Omega.{arith}
 use borrow.Author.Needs.{needs}
 use Rattle.header.proofs.Write.{bytes-even, bytes-odd, fits-pad}

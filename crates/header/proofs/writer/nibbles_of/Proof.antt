@@ -1,4 +1,4 @@
--- `nibbles_of` meets its contract: four varnibbles, one behind the other. Assumes nothing.
+-- `nibbles_of` meets its contract: four varnibbles, one behind the other.
 use native.Mathlib.Omega.{arith}
 use borrow.Author.Needs.{needs}
 use Rattle.header.proofs.Write.{joined-four}

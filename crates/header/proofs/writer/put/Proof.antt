@@ -1,4 +1,4 @@
--- `put` meets its contract. The invariant: the first i bytes stand at the front of the area. Assumes nothing.
+-- `put` meets its contract. The invariant: the first i bytes stand at the front of the area.
 use Prim.Native.Nat.{_-_, _≤_}
 use mathlib.Core.Path.{refl, _∙_}
 use mathlib.Core.List.{map-id}

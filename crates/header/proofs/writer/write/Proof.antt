@@ -1,4 +1,4 @@
--- `write` meets its contract: a law of `writeHeader` for each return. Assumes nothing.
+-- `write` meets its contract: a law of `writeHeader` for each return.
 use native.Mathlib.Omega.{arith}
 use borrow.Author.Needs.{needs}
 use Rattle.header.proofs.Write.{all-writable, write-17, write-15, write-ok}

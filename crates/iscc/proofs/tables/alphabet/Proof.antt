@@ -1,4 +1,4 @@
--- `alphabet` meets its contract, by computation. Assumes nothing.
+-- `alphabet` meets its contract, by computation.
 use mathlib.Core.Path.{refl}
 use Rattle.iscc.specs.Base32.{base32}
 use Rattle.iscc.proofs.tables.alphabet.Statement.{statement}

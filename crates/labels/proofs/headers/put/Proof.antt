@@ -1,8 +1,8 @@
--- `labels::headers::put` is safe and ends. Assumes nothing.
+-- `labels::headers::put` is safe and ends.
 use borrow.Author.Needs.{needs}
 use lib.ListN.{length}
 use Rattle.iscc.specs.Header.{writeHeader}
-use Rattle.header.specs.Forms.{headerFrom}
+use Rattle.header.specs.Representation.{headerFrom}
 use Rattle.lines.proofs.Pieces.{written-within}
 use Rattle.labels.proofs.headers.put.Statement.{statement}
 use Rattle.labels.proofs.headers.put.Tie as tie

@@ -1,4 +1,4 @@
--- `labels::say::hex` is safe and ends. Assumes nothing.
+-- `labels::say::hex` is safe and ends.
 use Prim.Native.Nat.{_-_}
 use native.Mathlib.Omega.{arith}
 use borrow.Author.Needs.{needs}

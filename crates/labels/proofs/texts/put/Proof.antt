@@ -1,4 +1,4 @@
--- `labels::texts::put` is safe and ends. Assumes nothing.
+-- `labels::texts::put` is safe and ends.
 use borrow.Author.Needs.{needs}
 use lib.ListN.{length}
 use Rattle.iscc.specs.Doors.{intake}

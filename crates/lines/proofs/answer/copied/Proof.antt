@@ -1,4 +1,4 @@
--- `lines::answer::copied` meets its contract. Assumes nothing.
+-- `lines::answer::copied` meets its contract.
 use borrow.Author.Needs.{needs}
 use Rattle.lines.proofs.Answers.{same-answer}
 use Rattle.lines.proofs.Held.{answer-copied}

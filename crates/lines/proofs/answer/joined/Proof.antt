@@ -1,4 +1,4 @@
--- `lines::answer::joined` meets its contract. Assumes nothing.
+-- `lines::answer::joined` meets its contract.
 use mathlib.Core.Path.{refl, ap}
 use borrow.Author.Needs.{needs}
 use Rattle.lines.specs.Feeding.{answerLine}

@@ -1,4 +1,4 @@
--- `lines::answer::kept` meets its contract. Assumes nothing.
+-- `lines::answer::kept` meets its contract.
 use mathlib.Core.Path.{refl, ap}
 use borrow.Author.Needs.{needs}
 use Rattle.lines.specs.Feeding.{answerLine}

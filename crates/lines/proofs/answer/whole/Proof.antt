@@ -1,4 +1,4 @@
--- `lines::answer::whole` meets its contract. Assumes nothing.
+-- `lines::answer::whole` meets its contract.
 use native.Mathlib.Omega.{arith}
 use borrow.Author.Needs.{needs}
 use Rattle.lines.proofs.Answers.{text-answered, refusal-answered, refused-answer}

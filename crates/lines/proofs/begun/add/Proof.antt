@@ -1,4 +1,4 @@
--- `lines::begun::add` meets its contract. The loop's invariant: the first i bytes of the part are copied. Assumes nothing.
+-- `lines::begun::add` meets its contract. The loop's invariant: the first i bytes of the part are copied.
 use Prim.Native.Nat.{_+_, _-_, _≤_}
 use mathlib.Core.Path.{_≡_}
 use native.Mathlib.Omega.{arith}

@@ -1,4 +1,4 @@
--- `lines::begun::count` meets its contract. Assumes nothing.
+-- `lines::begun::count` meets its contract.
 use borrow.Author.Needs.{needs}
 use Rattle.lines.proofs.Held.{count-long, count-all, count-some}
 use Rattle.lines.proofs.begun.count.Statement.{statement}

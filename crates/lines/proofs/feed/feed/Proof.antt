@@ -1,5 +1,4 @@
 -- `lines::feed::feed` meets its contract. The loop's invariant: what is taken and answered so far, with what is left to feed.
--- Assumes nothing.
 use Prim.Native.Nat.{_-_}
 use mathlib.Core.Path.{refl, _∙_, ap}
 use native.Mathlib.Omega.{arith}

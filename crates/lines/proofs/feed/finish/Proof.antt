@@ -1,4 +1,4 @@
--- `lines::feed::finish` meets its contract. Assumes nothing.
+-- `lines::feed::finish` meets its contract.
 use borrow.Author.Needs.{needs}
 use Rattle.lines.proofs.Fed.{finished-none, finished-short, finished}
 use Rattle.lines.proofs.feed.finish.Statement.{statement}

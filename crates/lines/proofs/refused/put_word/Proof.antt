@@ -1,15 +1,15 @@
--- `lines::refused::put_word` meets its contract. The loop's invariant: the first i bytes are written. Assumes nothing.
+-- `lines::refused::put_word` meets its contract. The loop's invariant: the first i bytes are written.
 use Prim.Native.Nat.{_≤_, _-_}
 use native.Mathlib.Omega.{arith}
 use borrow.Author.Needs.{needs}
 use lib.ListN.{length, take}
 use Rattle.iscc.specs.Lines.{refusedWord}
-use Rattle.iscc.proofs.Area.{Written, nothing-written, length-written, copied-next, copied-all}
+use Rattle.iscc.proofs.Area.{WrittenFront, nothing-written, length-written, copied-next, copied-all}
 use Rattle.lines.proofs.refused.put_word.Statement.{statement}
 use Rattle.lines.proofs.refused.put_word.Tie as tie
 
 abbrev Inv-loop : tie.InvT-loop
-Inv-loop out₀ i₀ out i = (i ≤ 8) × (8 ≤ length out₀) × Written (take i refusedWord) out₀ out i
+Inv-loop out₀ i₀ out i = (i ≤ 8) × (8 ≤ length out₀) × WrittenFront (take i refusedWord) out₀ out i
 
 abbrev μ-loop : tie.MeasureT-loop
 μ-loop out₀ i₀ out i = 8 - i

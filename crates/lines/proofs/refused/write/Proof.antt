@@ -1,4 +1,4 @@
--- `lines::refused::write` meets its contract. Assumes nothing.
+-- `lines::refused::write` meets its contract.
 use borrow.Author.Needs.{needs}
 use lib.ListN.{length-set}
 use Rattle.lines.proofs.Refusals.{refusing-one, refusing-two}

@@ -1,4 +1,4 @@
--- `lines::scan::line_length` meets its contract. The loop's invariant: no LF among the first i bytes. Assumes nothing.
+-- `lines::scan::line_length` meets its contract. The loop's invariant: no LF among the first i bytes.
 use Prim.Native.Nat.{ℕ, _-_}
 use mathlib.Core.Path.{_≡_}
 use mathlib.Core.Bool.{true, false}

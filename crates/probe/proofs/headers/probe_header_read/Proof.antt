@@ -1,4 +1,4 @@
--- `probe_header_read` meets its contract: that of the call behind it. Assumes nothing.
+-- `probe_header_read` meets its contract: that of the call behind it.
 use borrow.Author.Needs.{needs}
 use Rattle.probe.proofs.Laws.{header-there, header-refused}
 use Rattle.probe.proofs.headers.probe_header_read.Statement.{statement}

@@ -1,6 +1,6 @@
--- `probe_header_write` meets its contract: that of the call behind it. Assumes nothing.
+-- `probe_header_write` meets its contract: that of the call behind it.
 use borrow.Author.Needs.{needs}
-use Rattle.iscc.proofs.Forms.{outcome-is}
+use Rattle.iscc.proofs.Representation.{outcome-is}
 use Rattle.probe.proofs.headers.probe_header_write.Statement.{statement}
 use Rattle.probe.proofs.headers.probe_header_write.Tie as tie
 

@@ -1,6 +1,6 @@
--- `probe_base32_read` meets its contract: that of the call behind it. Assumes nothing.
+-- `probe_base32_read` meets its contract: that of the call behind it.
 use borrow.Author.Needs.{needs}
-use Rattle.iscc.proofs.Forms.{outcome-is}
+use Rattle.iscc.proofs.Representation.{outcome-is}
 use Rattle.probe.proofs.texts.probe_base32_read.Statement.{statement}
 use Rattle.probe.proofs.texts.probe_base32_read.Tie as tie
 

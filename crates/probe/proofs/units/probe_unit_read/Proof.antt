@@ -1,4 +1,4 @@
--- `probe_unit_read` meets its contract: that of the call behind it. Assumes nothing.
+-- `probe_unit_read` meets its contract: that of the call behind it.
 use borrow.Author.Needs.{needs}
 use Rattle.probe.proofs.Laws.{unit-there, unit-refused}
 use Rattle.probe.proofs.units.probe_unit_read.Statement.{statement}

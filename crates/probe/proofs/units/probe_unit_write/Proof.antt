@@ -1,4 +1,4 @@
--- `probe_unit_write` meets its contract: that of the call behind it, for a number that names a main type. Assumes nothing.
+-- `probe_unit_write` meets its contract: that of the call behind it, for a number that names a main type.
 use borrow.Author.Needs.{needs}
 use Rattle.probe.proofs.Laws.{no-type, no-write, by-number, area-by-number}
 use Rattle.probe.proofs.units.probe_unit_write.Statement.{statement}

@@ -1,4 +1,4 @@
--- `read` meets its contract: the reader's answer, and whether a byte is left over. Assumes nothing.
+-- `read` meets its contract: the reader's answer, and whether a byte is left over.
 use borrow.Author.Needs.{needs}
 use Rattle.unit.proofs.ExactlyOne.{one-refused, one-left-over, one-unit}
 use Rattle.unit.proofs.one.read.Statement.{statement}

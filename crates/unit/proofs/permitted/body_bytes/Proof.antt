@@ -1,4 +1,4 @@
--- `body_bytes` meets its contract: a law of the table for each return. Assumes nothing.
+-- `body_bytes` meets its contract: a law of the table for each return.
 use native.Mathlib.Omega.{arith}
 use borrow.Author.Needs.{needs}
 use Rattle.unit.proofs.Table.{body-composite, body-id, body-other}

@@ -1,4 +1,4 @@
--- `item_of` meets its contract: a law of `readItem` for each return. Assumes nothing.
+-- `item_of` meets its contract: a law of `readItem` for each return.
 use native.Mathlib.Omega.{arith}
 use borrow.Author.Needs.{needs}
 use Rattle.header.proofs.Bounds.{raw-bounds}

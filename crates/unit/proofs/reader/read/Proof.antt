@@ -1,4 +1,4 @@
--- `read` meets its contract: what the header reader refuses is refused, and any other goes on. Assumes nothing.
+-- `read` meets its contract: what the header reader refuses is refused, and any other goes on.
 use borrow.Author.Needs.{needs}
 use Rattle.unit.proofs.Read.{header-there, header-bad}
 use Rattle.unit.proofs.reader.read.Statement.{statement}

@@ -1,4 +1,4 @@
--- `copy` meets its contract. The invariant: the first i bytes stand at the front of the area. Assumes nothing.
+-- `copy` meets its contract. The invariant: the first i bytes stand at the front of the area.
 use Prim.Native.Nat.{_-_, _≤_}
 use mathlib.Core.Path.{_≡_, _∙_, ap}
 use Prim.Native.Nat.{ℕ}
@@ -6,12 +6,12 @@ use native.Mathlib.Omega.{arith}
 use borrow.Author.Needs.{needs}
 use lib.ListN.{take}
 use Rattle.iscc.specs.Answer.{accept, areaAfter}
-use Rattle.iscc.proofs.Area.{Written, nothing-written, length-written, all-written, copied-next}
+use Rattle.iscc.proofs.Area.{WrittenFront, nothing-written, length-written, all-written, copied-next}
 use Rattle.unit.proofs.writer.copy.Statement.{statement}
 use Rattle.unit.proofs.writer.copy.Tie as tie
 
 abbrev Inv-loop : tie.InvT-loop
-Inv-loop from count to₀ i₀ to i = (i ≤ count) × Written (take i from) to₀ to i
+Inv-loop from count to₀ i₀ to i = (i ≤ count) × WrittenFront (take i from) to₀ to i
 
 abbrev μ-loop : tie.MeasureT-loop
 μ-loop from count to₀ i₀ to i = count - i

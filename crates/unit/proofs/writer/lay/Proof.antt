@@ -1,10 +1,10 @@
--- `lay` meets its contract: the header was written to the front, and the body to the part behind it. Assumes nothing.
+-- `lay` meets its contract: the header was written to the front, and the body to the part behind it.
 use mathlib.Core.Path.{sym, _∙_}
 use native.Mathlib.Omega.{arith}
 use borrow.Author.Needs.{needs}
 use Rattle.iscc.specs.Header.{headerBytes}
 use Rattle.iscc.proofs.Header.{length-short}
-use Rattle.header.specs.Forms.{headerFrom}
+use Rattle.header.specs.Representation.{headerFrom}
 use Rattle.iscc.proofs.Parts.{over-twice}
 use Rattle.unit.proofs.Write.{header-written}
 use Rattle.unit.proofs.writer.lay.Statement.{statement}

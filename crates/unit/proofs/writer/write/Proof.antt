@@ -1,4 +1,4 @@
--- `write` meets its contract: a law of `writeUnit` for each return. Assumes nothing.
+-- `write` meets its contract: a law of `writeUnit` for each return.
 use native.Mathlib.Omega.{arith}
 use borrow.Author.Needs.{needs}
 use Rattle.unit.proofs.Write.{type-small, numbers-small, write-composite, write-8, write-9, write-15, write-ok}
@@ -14,7 +14,7 @@ returns-2 c = write-8 _ _ _ _ _ _ (c .before .permits .ensures) (c .if2 .taken)
 body-bytes-requires : tie.Need-body-bytes-requires
 body-bytes-requires c κs =
     let p = c .before .permits .ensures in
-    (type-small _ _ _ _ p (c .if2 .left), numbers-small _ _ _ _ p (c .if2 .left) .lengthNo)
+    (type-small _ _ _ _ p (c .if2 .left), numbers-small _ _ _ _ p (c .if2 .left) .lengthNumber)
 
 returns-3 : tie.Need-returns-3
 returns-3 c =
@@ -34,7 +34,7 @@ lay-requires c κs =
     let p = b .before .before .permits .ensures in
     let t = type-small _ _ _ _ p (b .before .if2 .left) in
     let s = numbers-small _ _ _ _ p (b .before .if2 .left) in
-    (omega arith, omega (arith, s .subtype), omega (arith, s .version), omega (arith, s .lengthNo), omega arith, omega arith)
+    (omega arith, omega (arith, s .subtype), omega (arith, s .version), omega (arith, s .lengthNumber), omega arith, omega arith)
 
 returns-5 : tie.Need-returns-5
 returns-5 c =

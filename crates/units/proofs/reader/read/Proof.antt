@@ -1,4 +1,4 @@
--- `read` meets its contract: the items so far, and what the rest adds to them. Assumes nothing.
+-- `read` meets its contract: the items so far, and what the rest adds to them.
 use Prim.Native.Nat.{_-_, _<_, _^_}
 use lib.ListN.{length}
 use borrow.Author.Needs.{needs}

@@ -1,4 +1,4 @@
--- `advance` meets its contract. Assumes nothing.
+-- `advance` meets its contract.
 use borrow.Author.Needs.{needs}
 use Rattle.units.proofs.Tests.{advance-more, advance-broken, advance-past}
 use Rattle.units.proofs.summary.advance.Statement.{statement}

@@ -1,4 +1,4 @@
--- `is_joinable` meets its contract. Assumes nothing.
+-- `is_joinable` meets its contract.
 use Rattle.units.proofs.Tests.{nor-first, nor-second}
 use borrow.Author.Needs.{needs}
 use Rattle.units.proofs.summary.is_joinable.Statement.{statement}

@@ -1,4 +1,4 @@
--- `is_shared` meets its contract. Assumes nothing.
+-- `is_shared` meets its contract.
 use Rattle.units.proofs.Tests.{cond-both, cond-first, cond-none}
 use Rattle.units.specs.Summary.{shares}
 use borrow.Author.Needs.{needs}

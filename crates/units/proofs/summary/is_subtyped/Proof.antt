@@ -1,4 +1,4 @@
--- `is_subtyped` meets its contract. Assumes nothing.
+-- `is_subtyped` meets its contract.
 use Rattle.units.proofs.Tests.{or-first, or-second}
 use borrow.Author.Needs.{needs}
 use Rattle.units.proofs.summary.is_subtyped.Statement.{statement}

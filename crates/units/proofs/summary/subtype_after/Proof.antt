@@ -1,4 +1,4 @@
--- `subtype_after` meets its contract. Assumes nothing.
+-- `subtype_after` meets its contract.
 use Rattle.units.proofs.Tests.{cond-both, cond-first, cond-none}
 use borrow.Author.Needs.{needs}
 use Rattle.units.proofs.summary.subtype_after.Statement.{statement}

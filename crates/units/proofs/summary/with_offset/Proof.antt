@@ -1,4 +1,4 @@
--- `with_offset` meets its contract. Assumes nothing.
+-- `with_offset` meets its contract.
 use Rattle.units.proofs.Tests.{first-offset, later-offset}
 use borrow.Author.Needs.{needs}
 use Rattle.units.proofs.summary.with_offset.Statement.{statement}

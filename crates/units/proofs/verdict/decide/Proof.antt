@@ -1,4 +1,4 @@
--- `decide` meets its contract: each return by the tests on the way there. Assumes nothing.
+-- `decide` meets its contract: each return by the tests on the way there.
 use borrow.Author.Needs.{needs}
 use Rattle.units.proofs.Decided.{refused-10, refused-11, refused-12, refused-data, refused-instance, refused-14, makes-one}
 use Rattle.units.proofs.verdict.decide.Statement.{statement}

@@ -1,4 +1,4 @@
--- `Distance::new` meets its contract: one division of two counts that were converted exactly. Assumes nothing.
+-- `Distance::new` meets its contract: one division of two counts that were converted exactly.
 use mathlib.Core.Path.{refl}
 use borrow.Author.Needs.{needs}
 use Rattle.iscc.specs.Distance.{ratioOf}

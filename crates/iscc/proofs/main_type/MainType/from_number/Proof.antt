@@ -1,4 +1,4 @@
--- `MainType::from_number` meets its contract. Assumes nothing.
+-- `MainType::from_number` meets its contract.
 use borrow.Author.Needs.{needs}
 use borrow.Author.Tests.{lt-ltb, le-ltb}
 use Rattle.iscc.specs.Permitted.{mainTypeOf}

@@ -1,9 +1,9 @@
--- `Written::outcome` meets its contract, by each case. Assumes nothing.
+-- `Written::outcome` meets its contract, by each case.
 use Prim.Native.Nat.{ℕ}
 use mathlib.Core.Path.{_≡_, refl}
 use borrow.Author.Needs.{needs}
 use Rattle.iscc.specs.Refusals.{Refusal}
-use Rattle.iscc.specs.Forms.{outcomeAs}
+use Rattle.iscc.specs.Representation.{outcomeAs}
 use Rattle.iscc.specs.declared.written.Outcome.{Outcome}
 use Rattle.iscc.specs.declared.written.Written.{Written}
 use Rattle.iscc.specs.declared.written.Written.the-variants.{Length, Refused}

@@ -1,4 +1,4 @@
--- The code's answer of a distance as a form of the definitions' value. Assumes nothing.
+-- The code's answer of a distance as a form of the definitions' value.
 use Prim.Native.Nat.{ℕ, _≤_}
 use mathlib.Core.Path.{_≡_}
 use mathlib.Core.Bool.{Bool, true, _&&_}
@@ -13,7 +13,7 @@ use Rattle.iscc.specs.Distance.{ratioOf, differingBits, comparedBits, hasDistan
 use Rattle.iscc.specs.Distance as definition
 use Rattle.iscc.specs.Permitted.{typeOf}
 use Rattle.iscc.specs.Item.{readOne}
-use Rattle.unit.specs.Forms.{oneReadAs}
+use Rattle.unit.specs.Representation.{oneReadAs}
 use Rattle.unit.specs.declared.reader.Unit.{Unit}
 use Rattle.unit.specs.declared.reader.UnitRead.the-variants as read
 use Rattle.distance.specs.declared.answer.Distance.{Distance}

@@ -1,6 +1,6 @@
--- The code's types as forms of the definitions' values. Assumes nothing.
+-- The code's types as forms of the definitions' values.
 use mathlib.Core.Path.{_≡_, _∙_, ap}
-use Rattle.iscc.specs.Forms.{outcomeAs}
+use Rattle.iscc.specs.Representation.{outcomeAs}
 use Rattle.iscc.specs.declared.written.Outcome.{Outcome}
 use Rattle.iscc.specs.declared.written.Written.{Written}
 

@@ -1,4 +1,4 @@
--- The code's types (src/) as forms of the definitions' values. Assumes nothing.
+-- The code's types (src/) as forms of the definitions' values.
 use Prim.Native.Nat.{ℕ, _-_}
 use mathlib.Core.Bool.{Bool, _&&_}
 use mathlib.Core.List.{List}
@@ -9,9 +9,9 @@ use Rattle.iscc.specs.Varnibble.{Parsed}
 use Rattle.iscc.specs.Header.{Header}
 use Rattle.iscc.specs.Permitted.{typeOf, row, permits}
 use Rattle.iscc.specs.Item.{Item}
-use Rattle.iscc.specs.Forms.{mainTypeAs}
+use Rattle.iscc.specs.Representation.{mainTypeAs}
 use Rattle.iscc.specs.declared.main_type.MainType.{MainType}
-use Rattle.header.specs.Forms.{Fields, noFields}
+use Rattle.header.specs.Representation.{Fields, noFields}
 use Rattle.unit.specs.declared.reader.Unit as code
 use Rattle.unit.specs.declared.reader.UnitRead.{UnitRead}
 use Rattle.unit.specs.declared.reader.UnitRead.the-variants as read
@@ -25,8 +25,8 @@ unfoldable pub permitsAs : MainType → ℕ → ℕ → ℕ → Bool
 permitsAs m s v l = ltb (m .number) 7 && permits (typeOf (m .number)) s v l
 
 -- the header of a unit to be written
-abbrev pub headerOf : MainType → ℕ → ℕ → ℕ → Header
-headerOf m s v l = record { mainType = m .number; subtype = s; version = v; lengthNo = l }
+abbrev pub headerWith : MainType → ℕ → ℕ → ℕ → Header
+headerWith m s v l = record { mainType = m .number; subtype = s; version = v; lengthNumber = l }
 
 -- an item that was read, by where its body stands
 abbrev pub unitAs : Parsed Item → code.Unit
@@ -35,7 +35,7 @@ unitAs g =
       «main_type» = mainTypeAs (g .result .mainType);
       subtype = g .result .subtype;
       version = g .result .version;
-      length = g .result .lengthNo;
+      «length_number» = g .result .lengthNumber;
       start = g .used - length (g .result .body);
       used = g .used;
     }
@@ -53,7 +53,7 @@ unitFields (read.Unit u) =
       mainType = u .«main_type» .number;
       subtype = u .subtype;
       version = u .version;
-      lengthNumber = u .length;
+      lengthNumber = u .«length_number»;
       used = u .used;
     }
 unitFields (read.Refused q) = noFields (q .number)

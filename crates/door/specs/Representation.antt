@@ -1,4 +1,4 @@
--- The strict door's answer in the code. Assumes nothing.
+-- The strict door's answer in the code.
 use Prim.Native.Nat.{ℕ}
 use Rattle.iscc.specs.Answer.{Answer, accept, refuse}
 use Rattle.iscc.specs.Meaning.{Meaning}

@@ -1,4 +1,4 @@
--- The code's types (src/) as forms of the definitions' values. Assumes nothing.
+-- The code's types (src/) as forms of the definitions' values.
 use Prim.Native.Nat.{ℕ, _+_, _*_, _^_, _≤_, _/_, _%_}
 use mathlib.Core.Path.{_≡_}
 use mathlib.Core.List.{List}
@@ -16,10 +16,10 @@ use Rattle.header.specs.declared.reader.Numbers.{Numbers}
 
 -- a header in the code is the four numbers
 abbrev pub headerAs : iscc.Header → Header
-headerAs h = record { «main_type» = h .mainType; subtype = h .subtype; version = h .version; length = h .lengthNo }
+headerAs h = record { «main_type» = h .mainType; subtype = h .subtype; version = h .version; «length_number» = h .lengthNumber }
 
 abbrev pub headerFrom : Header → iscc.Header
-headerFrom h = record { mainType = h .«main_type»; subtype = h .subtype; version = h .version; lengthNo = h .length }
+headerFrom h = record { mainType = h .«main_type»; subtype = h .subtype; version = h .version; lengthNumber = h .«length_number» }
 
 abbrev pub rawHeaderAs : Parsed iscc.Header → RawHeader
 rawHeaderAs g = record { header = headerAs (g .result); used = g .used }
@@ -49,7 +49,7 @@ headerFields (read.Header h) =
       mainType = h .header .«main_type»;
       subtype = h .header .subtype;
       version = h .header .version;
-      lengthNumber = h .header .length;
+      lengthNumber = h .header .«length_number»;
       used = h .used;
     }
 headerFields (read.Refused q) = noFields (q .number)
@@ -76,9 +76,9 @@ pub record NumbersIn (bs : List ℕ) (n : Numbers) : Type 0 where
   pub first : n .«main_type» ≡ numberAs (readVarnibble (iscc.nibbles bs))
   pub second : n .subtype ≡ numberAs (readVarnibble (drop (n .«main_type» .width) (iscc.nibbles bs)))
   pub third : n .version ≡ numberAs (readVarnibble (drop (n .«main_type» .width + n .subtype .width) (iscc.nibbles bs)))
-  pub fourth : n .length ≡ numberAs (readVarnibble (drop (n .«main_type» .width + n .subtype .width + n .version .width) (iscc.nibbles bs)))
-  pub most : n .«main_type» .width + n .subtype .width + n .version .width + n .length .width ≤ 16
+  pub fourth : n .«length_number» ≡ numberAs (readVarnibble (drop (n .«main_type» .width + n .subtype .width + n .version .width) (iscc.nibbles bs)))
+  pub most : n .«main_type» .width + n .subtype .width + n .version .width + n .«length_number» .width ≤ 16
 
 -- a header of two bytes whose four nibbles are its numbers
 abbrev pub shortHeader : ℕ → ℕ → RawHeader
-shortHeader a b = record { header = record { «main_type» = a / 16; subtype = a % 16; version = b / 16; length = b % 16 }; used = 2 }
+shortHeader a b = record { header = record { «main_type» = a / 16; subtype = a % 16; version = b / 16; «length_number» = b % 16 }; used = 2 }

@@ -1,4 +1,4 @@
--- The code's types (src/) as forms of the definitions' values. Assumes nothing.
+-- The code's types (src/) as forms of the definitions' values.
 use Prim.Native.Nat.{ℕ}
 use mathlib.Core.List.{List, [], _++_, map}
 use lib.ListN.{length, take, replicate}
@@ -22,7 +22,7 @@ use Rattle.iscc.specs.declared.written.Written.the-variants.{Length, Ref
 abbrev pub mainTypeAs : permitted.MainType → MainType
 mainTypeAs m = record { number = number m }
 
--- a set of units as the code's table has it: zeroFilled up to five places
+-- a set of units as the code's table has it: filled up to five
 unfoldable pub unitSetAs : permitted.Set → UnitSet
 unitSetAs s = record { units = take 5 (map mainTypeAs (unitTypes s) ++ replicate 5 (mainTypeAs permitted.ID)); count = unitCount s }
 
