@@ -18,7 +18,7 @@ use Rattle.iscc.specs.declared.code.CodeAnswer.the-variants as answers
 use Rattle.iscc.specs.declared.written.Written.the-variants as written
 use Rattle.iscc.proofs.Codes.{zero-filled, code-is, no-code, code-front}
 use Rattle.iscc.proofs.Filling.{too-short, answers-same}
-use Rattle.header.proofs.Short.{short-bytes}
+use Rattle.iscc.proofs.Header.{short-bytes}
 use Rattle.units.specs.declared.summary.Summary.{Summary}
 use Rattle.units.specs.Reading.{refusedIndex}
 use Rattle.units.specs.Verdict.{verdictDetail}

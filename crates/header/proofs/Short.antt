@@ -10,24 +10,12 @@ use lib.ListN.{length, getD, drop}
 use lib.Seq.{drop-cons}
 use borrow.Author.Tests.{ltb-true}
 use Rattle.iscc.specs.Answer.{accept}
-use Rattle.iscc.specs.Digits.{digits}
-use Rattle.iscc.specs.Varnibble.{varnibble, prefixOf, firstOf}
-use Rattle.iscc.specs.Header.{Header, packed, headerBytes, readHeader}
+use Rattle.iscc.specs.Header.{Header, headerBytes, readHeader}
 use Rattle.iscc.proofs.Booleans.{both-true}
-use Rattle.iscc.proofs.Varnibble.{row-is-1}
-use Rattle.iscc.proofs.Header.{read-header}
+use Rattle.iscc.proofs.Header.{read-header, short-bytes}
 use Rattle.header.specs.declared.reader.HeaderRead.the-variants as read
 use Rattle.header.specs.declared.reader.RawHeader.{RawHeader}
 use Rattle.header.specs.Representation.{headerReadAs, shortHeader}
-
-small : (n : ℕ) → n < 8 → varnibble n ≡ n ∷ []
-unfolding varnibble digits prefixOf firstOf
-small n h = rw (row-is-1 h) (ap (λ (d : ℕ). d ∷ []) (omega arith))
-
-pub short-bytes : (m s v l : ℕ) → m < 8 → s < 8 → v < 8 → l < 8
-    → headerBytes (record { mainType = m; subtype = s; version = v; lengthNumber = l }) ≡ (m * 16 + s) ∷ (v * 16 + l) ∷ []
-unfolding headerBytes packed
-short-bytes m s v l a b c d = rw (small m a, small s b, small v c, small l d)
 
 module _ (a b : ℕ) (rest : List ℕ) (a₁ : a / 16 < 8) (a₂ : a % 16 < 8) (b₁ : b / 16 < 8) (b₂ : b % 16 < 8) where
   abbrev nibbles : Header

@@ -1,24 +1,25 @@
 -- A code by value, and the two calls: the code of a text, and the text of a code.
-use Prim.Native.Nat.{ℕ, zero, suc, _-_, _≤_}
+use Prim.Native.Nat.{ℕ, zero, suc, _-_, _/_, _≤_}
 use mathlib.Core.Path.{_≡_, refl, sym, _∙_, ap, subst}
 use mathlib.Core.Logic.{_↔_}
 use mathlib.Core.List.{List, [], _++_}
 use native.Mathlib.Numerals.{unary-clauses}
 use native.Mathlib.Omega.{arith}
-use lib.ListN.{length, take, drop, replicate}
+use lib.ListN.{length, getD, take, drop, replicate}
 use lib.Seq.{take-at}
 use lib.Dec.{leb}
 use borrow.Author.Tests.{le-leb}
 use Rattle.iscc.specs.Answer.{Answer, accept, refuse, Accepted, _>>=_, areaAfter}
 use Rattle.iscc.specs.Lists.{zeroFilled}
 use Rattle.iscc.specs.Digits.{Below}
+use Rattle.iscc.specs.Permitted.{number}
 use Rattle.iscc.specs.Meaning.{Meaning, Permitted}
 use Rattle.iscc.specs.Item.{Item, itemBytes, itemOf, readOne, meaningOf}
 use Rattle.iscc.specs.Doors.{meaningOfText, textOf, codeBytes, readCode, writeText, intake, strict}
 use Rattle.iscc.specs.Codes.{CodesAndTexts}
 use Rattle.iscc.specs.Representation.{codeAs}
 use Rattle.iscc.proofs.Answer.{accepted, value-of, passed, answered, accept-inj}
-use Rattle.iscc.proofs.Item.{PermittedItem, length-item, item-most, item-below}
+use Rattle.iscc.proofs.Item.{PermittedItem, length-item, item-most, item-first, item-below}
 use Rattle.iscc.proofs.Meaning.{meaning-back, item-permitted, item-back, meant-item}
 use Rattle.iscc.proofs.Split.{read-one, one-read}
 use Rattle.iscc.proofs.Demand3.{intake-of, strict-of, strict-means}
@@ -117,5 +118,8 @@ code-size t bs k e =
     subst (λ (l : List ℕ). (2 ≤ length l) × (length l ≤ 42) × Below 256 l) (w .2)
     (omega (arith, length-item (itemOf (w .0)) p), item-most (itemOf (w .0)) p, item-below (itemOf (w .0)) p)
 
+first-nibble : (bs : List ℕ) (i : Item) → Below 256 bs → readOne bs ≡ accept i → getD bs 0 0 / 16 ≡ number (i .mainType)
+first-nibble bs i b e = let r = one-read bs i b e in ap (λ (l : List ℕ). getD l 0 0 / 16) (sym (r .1)) ∙ item-first i (r .0)
+
 pub codes-and-texts : CodesAndTexts
-codes-and-texts = record { throughCode = through-code; textBack = text-back; codeBack = code-back; sameCode = same-code; size = code-size }
+codes-and-texts = record { throughCode = through-code; textBack = text-back; codeBack = code-back; sameCode = same-code; firstNibble = first-nibble; size = code-size }

@@ -11,8 +11,8 @@ use lib.Seq.{drop-at, drop-drop, getD-append-seam, take-add}
 use lib.Dec.{eqb}
 use borrow.Author.Tests.{eq-eqb, le-leb, eqb-true}
 use Rattle.iscc.specs.Answer.{accept}
-use Rattle.iscc.specs.Digits.{Below}
-use Rattle.iscc.specs.Varnibble.{rowOf, varnibble, Parsed, writeVarnibble, readVarnibble}
+use Rattle.iscc.specs.Digits.{Below, digits}
+use Rattle.iscc.specs.Varnibble.{firstOf, prefixOf, rowOf, varnibble, Parsed, writeVarnibble, readVarnibble}
 use Rattle.iscc.specs.Header.{Header, nibbles, packed, headerBytes, rawHeader, readHeader}
 use Rattle.iscc.proofs.Booleans.{or-left, or-right, or-cases}
 use Rattle.iscc.proofs.Digits.{below-append, below-drop}
@@ -116,7 +116,16 @@ pub length-header : (h : Header) → length (headerBytes h) ≡ (rowOf (h .mainT
 unfolding headerBytes
 length-header h = length-packed (nibblesOf h) ∙ simp (length-append, length-varnibble)
 
--- four numbers below 8 are two bytes
+-- four numbers below 8 are two bytes, a nibble a number
+one-nibble : (n : ℕ) → n < 8 → varnibble n ≡ n ∷ []
+unfolding varnibble digits prefixOf firstOf
+one-nibble n h = rw (row-is-1 h) (ap (λ (d : ℕ). d ∷ []) (omega arith))
+
+pub short-bytes : (m s v l : ℕ) → m < 8 → s < 8 → v < 8 → l < 8
+    → headerBytes (record { mainType = m; subtype = s; version = v; lengthNumber = l }) ≡ (m * 16 + s) ∷ (v * 16 + l) ∷ []
+unfolding headerBytes packed
+short-bytes m s v l a b c d = rw (one-nibble m a, one-nibble s b, one-nibble v c, one-nibble l d)
+
 pub length-short : (h : Header) → h .mainType < 8 → h .subtype < 8 → h .version < 8 → h .lengthNumber < 8 → length (headerBytes h) ≡ 2
 length-short h a b c d = length-header h ∙ rw (row-is-1 a, row-is-1 b, row-is-1 c, row-is-1 d)
 

@@ -1,10 +1,10 @@
 -- The laws of one item.
-use Prim.Native.Nat.{ℕ, _+_, _≤_}
+use Prim.Native.Nat.{ℕ, _+_, _/_, _≤_}
 use mathlib.Core.Path.{_≡_, sym, _∙_, ap, subst}
 use mathlib.Core.Bool.{true, _&&_}
 use mathlib.Core.List.{List, _++_, append-assoc}
 use native.Mathlib.Omega.{arith}
-use lib.ListN.{length, take, drop, length-append, length-drop}
+use lib.ListN.{length, getD, take, drop, length-append, length-drop}
 use lib.Seq.{drop-append-seam, take-at, length-take-le, take-add}
 use lib.Dec.{leb}
 use borrow.Author.Tests.{le-leb, leb-true}
@@ -18,7 +18,7 @@ use Rattle.iscc.specs.Item.{Item, headerOf, itemWith, itemBytes, readIte
 use Rattle.iscc.proofs.Answer.{passed, answered, accept-inj}
 use Rattle.iscc.proofs.Booleans.{both-true}
 use Rattle.iscc.proofs.Digits.{below-append, below-take, below-drop}
-use Rattle.iscc.proofs.Header.{Writable, read-header, header-below, length-short, header-read}
+use Rattle.iscc.proofs.Header.{Writable, read-header, header-below, length-short, short-bytes, header-read}
 use Rattle.iscc.proofs.Permitted.{mainTypeOf-number, mainTypeOf-back, number-small, Small, small, body-most}
 
 -- an item whose header the table permits, with a body as long as the table says
@@ -120,6 +120,14 @@ item-most i p =
     let l : length (itemBytes i) ≡ 2 + bodyBytes (i .mainType) (i .subtype) (i .lengthNumber) = length-item i p in
     let b : bodyBytes (i .mainType) (i .subtype) (i .lengthNumber) ≤ 40 = body-most (i .mainType) (i .subtype) (i .version) (i .lengthNumber) (p .header) in
     omega arith
+
+-- the main type is the first nibble
+pub item-first : (i : Item) → PermittedItem i → getD (itemBytes i) 0 0 / 16 ≡ number (i .mainType)
+unfolding itemBytes
+item-first i p =
+    let s : Small (i .subtype) (i .version) (i .lengthNumber) = small (i .mainType) (i .subtype) (i .version) (i .lengthNumber) (p .header) in
+    let n : number (i .mainType) ≤ 6 = number-small (i .mainType) in
+    rw (short-bytes (number (i .mainType)) (i .subtype) (i .version) (i .lengthNumber) (omega arith) (omega arith) (omega arith) (omega arith)) (omega arith)
 
 pub item-below : (i : Item) → PermittedItem i → Below 256 (itemBytes i)
 unfolding itemBytes
