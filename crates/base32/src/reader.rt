@@ -16,7 +16,7 @@ use iscc::refusal::Refusal;
 use iscc::written::Written;
 
 // The digit of a character in either case, or 32 where it has none.
-pub fn digit_of(c: u8) -> u8
+pub(crate) fn digit_of(c: u8) -> u8
     ensures { λ r. ⌜ (r ≡ digitIn base32 c) × (r ≤ 32) ⌝ }
 {
     match c {

@@ -26,16 +26,14 @@ use Rattle.composite.specs.declared.bodies.Composite.{Composite}
 use Rattle.composite.specs.Bodies.{laid}
 use Rattle.composite.specs.Code.{Sound, compositeHeader, compositeBytes}
 use Rattle.composite.specs.Joined.{Listed, composedBytes}
-use Rattle.composite.specs.Canonical.{canonicalBytes, detailOf}
+use Rattle.composite.specs.Canonical.{canonicalBytes, detailOf, codedAs}
+use Rattle.composite.specs.declared.code.Coded.{Coded}
+use Rattle.composite.specs.declared.code.Coded.the-variants as coded
 use Rattle.composite.proofs.Bytes.{count, subtype-fits, number-fits, code-length, code-over, into-fits}
 
 -- bytes in front of zeros, and how many they are
 value-is : (out a : List ℕ) (n : ℕ) → a ≡ areaAfter (accept out) (replicate 42 0) → n ≡ length out → record { bytes = a; length = n } ≡ codeAs out
 value-is out a n e l = ap₂ (λ (x : List ℕ) (k : ℕ). record { bytes = x; length = k }) (e ∙ zero-filled 42 out) l ∙ code-is out
-
--- one item's own bytes
-pub item-value : (bs a : List ℕ) → a ≡ take (length bs) bs ++ drop (length bs) (replicate 42 0) → record { bytes = a; length = length bs } ≡ codeAs bs
-item-value bs a e = value-is bs a (length bs) (e ∙ ap (λ (x : List ℕ). x ++ drop (length bs) (replicate 42 0)) (take-length bs)) refl
 
 -- ---- of a composite
 
@@ -70,10 +68,28 @@ pub broken-value : (bs : List ℕ) (l : Summary) (i : Listed bs l) (q : Refusal)
 unfolding detailOf
 broken-value bs l i q j r e f = f ∙ rw (i .read, e .0, e .1)
 
-pub unread-value : (bs : List ℕ) (q : Refusal) (j : ℕ) (r : CodeRead) → (readItems bs ≡ refuse q) × (refusedIndex bs ≡ j)
-    → r ≡ codeReadAs j (refuse q) → r ≡ codeReadAs (detailOf bs) (canonicalBytes bs)
+-- ---- a code that was written to an area
+
+pub unread-coded : (bs d : List ℕ) (q : Refusal) (j : ℕ) → (readItems bs ≡ refuse q) × (refusedIndex bs ≡ j)
+    → (coded.Refused q j ≡ codedAs (detailOf bs) (canonicalBytes bs)) × (d ≡ areaAfter (canonicalBytes bs) d)
 unfolding detailOf canonicalBytes
-unread-value bs q j r e f = f ∙ rw (e .0, e .1)
+unread-coded bs d q j e = rw (e .0, e .1) (refl, refl)
+
+-- and then answered by value
+module _ (k : ℕ) (w : Coded) (r : CodeRead) where
+  pub area-value : (x : Answer (List ℕ)) (n : ℕ) (a : List ℕ) → w ≡ codedAs k x → a ≡ areaAfter x (replicate 42 0) → w ≡ coded.Length n
+      → r ≡ record { answer = answers.Accepted; code = record { bytes = a; length = n } } → r ≡ codeReadAs k x
+  area-value (accept out) n a e f g h =
+      let l : n ≡ length out = cc in
+      found-value k (accept out) out _ r refl (value-is out a n f l) h
+  area-value (refuse q) n a e f g h = let o : _≡_ {A = ℕ} 0 1 = cc in absurd (omega arith)
+
+  pub none-value : (x : Answer (List ℕ)) (q : Refusal) (j : ℕ) → w ≡ codedAs k x → w ≡ coded.Refused q j → r ≡ codeReadAs j (refuse q) → r ≡ codeReadAs k x
+  none-value (accept out) q j e g h = let o : _≡_ {A = ℕ} 0 1 = cc in absurd (omega arith)
+  none-value (refuse p) q j e g h =
+      let o : q ≡ p = cc in
+      let i : j ≡ k = cc in
+      h ∙ ap₂ (λ (m : ℕ) (u : Refusal). codeReadAs m (refuse u)) i o
 
 -- ---- a code that was found, copied to an area
 
@@ -90,6 +106,20 @@ module _ (k : ℕ) (x : Answer (List ℕ)) (r : CodeRead) (e : r ≡ codeReadAs 
           let a : r .answer ≡ answers.Refused p k = ap (λ (z : CodeRead). z .answer) h in
           let o : p ≡ q = cc in
           ap refuse o
+
+  pub refused-coded : (d : List ℕ) (q : Refusal) (j : ℕ) → r .answer ≡ answers.Refused q j → (coded.Refused q j ≡ codedAs k x) × (d ≡ areaAfter x d)
+  refused-coded d q j f = go x e
+    where
+      go : (y : Answer (List ℕ)) → r ≡ codeReadAs k y → (coded.Refused q j ≡ codedAs k y) × (d ≡ areaAfter y d)
+      go (accept out) h =
+          let a : r .answer ≡ answers.Accepted = ap (λ (z : CodeRead). z .answer) h in
+          let o : _≡_ {A = ℕ} 0 1 = cc in
+          absurd (omega arith)
+      go (refuse p) h =
+          let a : r .answer ≡ answers.Refused p k = ap (λ (z : CodeRead). z .answer) h in
+          let o : q ≡ p = cc in
+          let i : j ≡ k = cc in
+          (ap₂ coded.Refused o i, refl)
 
   pub told-code : r .answer ≡ answers.Accepted → (out : List ℕ) × (x ≡ accept out) × (r .code ≡ codeAs out)
   told-code f = go x e
@@ -116,17 +146,27 @@ module _ (k : ℕ) (x : Answer (List ℕ)) (r : CodeRead) (e : r ≡ codeReadAs 
         let b : r .code .bytes ≡ code ++ replicate (42 - length code) 0 = ap (λ (z : Code). z .bytes) (told-code f .2) in
         omega (arith, long, ap length b, length-append code (replicate (42 - length code) 0))
 
+    -- as callers hand it over
+    front : take (r .code .length - 0) (r .code .bytes) ≡ code
+    front =
+        let z : r .code .length - 0 ≡ r .code .length = omega arith in
+        ap (λ (n : ℕ). take n (r .code .bytes)) z
+        ∙ ap₂ (λ (n : ℕ) (bs : List ℕ). take n bs) long (ap (λ (z : Code). z .bytes) (told-code f .2)) ∙ code-front code
+
+    pub code-most : ((out : List ℕ) → x ≡ accept out → length out ≤ 42) → length (take (r .code .length - 0) (r .code .bytes)) ≤ 42
+    code-most h = omega (arith, ap length front, h code (told-code f .1))
+
+    pub copy-coded : (d part a : List ℕ) → part ≡ take (r .code .length - 0) (r .code .bytes) → a ≡ take (length part) part ++ drop (length part) d
+        → (coded.Length (r .code .length) ≡ codedAs k x) × (a ≡ areaAfter x d)
+    copy-coded d part a ep ea =
+        let p : part ≡ code = ep ∙ front in
+        let o : a ≡ areaAfter (accept code) d = ea ∙ ap (λ (y : List ℕ). take (length y) y ++ drop (length y) d) p ∙ ap (λ (y : List ℕ). y ++ drop (length code) d) (take-length code) in
+        rw (told-code f .1) (ap coded.Length long, o)
+
     module _ (d : List ℕ) where
       pub copy-short : length d < r .code .length
           → (written.Refused areaTooShort ≡ writtenAs (into (length d) x)) × (d ≡ areaAfter (into (length d) x) d)
       copy-short h = let s = too-short code d (omega (arith, long)) refl in answers-same d (told-code f .1) (s .0) (s .1)
-
-      -- as callers hand it over
-      front : take (r .code .length - 0) (r .code .bytes) ≡ code
-      front =
-          let z : r .code .length - 0 ≡ r .code .length = omega arith in
-          ap (λ (n : ℕ). take n (r .code .bytes)) z
-          ∙ ap₂ (λ (n : ℕ) (bs : List ℕ). take n bs) long (ap (λ (z : Code). z .bytes) (told-code f .2)) ∙ code-front code
 
       pub copy-done : (n : ℕ) (part a : List ℕ) → n ≡ r .code .length → part ≡ take (r .code .length - 0) (r .code .bytes) → r .code .length ≤ length d → a ≡ take (length part) part ++ drop (length part) d
           → (written.Length n ≡ writtenAs (into (length d) x)) × (a ≡ areaAfter (into (length d) x) d)

@@ -8,9 +8,10 @@ use Rattle.iscc.specs.Answer.{accept, _>>=_}
 use Rattle.iscc.specs.Digits.{Below}
 use Rattle.iscc.specs.Item.{Item, itemBytes, itemOf}
 use Rattle.iscc.specs.Items.{itemsBytes, compositeFrom, meaningOfItems}
+use Rattle.iscc.proofs.Answer.{answered}
 use Rattle.iscc.proofs.Item.{PermittedItem, item-most}
-use Rattle.iscc.proofs.Meaning.{item-back}
-use Rattle.iscc.proofs.Items.{ReadAll, items-read, two-or-more}
+use Rattle.iscc.proofs.Meaning.{item-back, item-permitted}
+use Rattle.iscc.proofs.Items.{ReadAll, items-read, two-or-more, compositeFrom-permitted}
 use Rattle.units.specs.declared.summary.Summary.{Summary}
 use Rattle.composite.specs.Joined.{Listed, composedBytes}
 use Rattle.composite.specs.Canonical.{canonicalBytes}
@@ -35,3 +36,13 @@ module _ (bs : List ℕ) (l : Summary) (i : Listed bs l) where
   pub canonical-more : 2 ≤ l .count → canonicalBytes bs ≡ composedBytes bs
   unfolding canonicalBytes composedBytes meaningOfItems
   canonical-more h = rw (i .read, two-or-more (λ is. meaningOfItems is ≡ compositeFrom is) (λ x y ys. refl) (i .items) (omega (arith, i .summary .count)))
+
+  -- 42 bytes are room enough
+  pub composed-most : Below 256 bs → (out : List ℕ) → composedBytes bs ≡ accept out → length out ≤ 42
+  unfolding composedBytes
+  composed-most b out e =
+      let f : (compositeFrom (i .items) >>= λ m. accept (itemBytes (itemOf m))) ≡ accept out = rw (i .read) at e in
+      let a = answered (compositeFrom (i .items)) (λ m. accept (itemBytes (itemOf m))) f in
+      let p = compositeFrom-permitted (i .items) (a .0) (items-read bs (i .items) b (i .read) .permitted) (a .1) in
+      let q : itemBytes (itemOf (a .0)) ≡ out = cc in
+      omega (arith, item-most (itemOf (a .0)) (item-permitted (a .0) p), ap length q)

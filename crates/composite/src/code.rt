@@ -2,11 +2,11 @@
 ghost use mathlib.Core.Path.{_≡_};
 ghost use Prim.Native.Nat.{_≤_};
 ghost use lib.ListN.{length};
-ghost use Rattle.iscc.specs.Answer.{refuse};
-ghost use Rattle.iscc.specs.Representation.{codeAs, codeReadAs};
+ghost use Rattle.iscc.specs.Answer.{refuse, areaAfter};
+ghost use Rattle.iscc.specs.Representation.{codeReadAs};
 ghost use Rattle.iscc.specs.declared.code.CodeAnswer.the-variants as answers;
 ghost use Rattle.composite.specs.Joined.{Listed, composedBytes};
-ghost use Rattle.composite.specs.Canonical.{detailOf, canonicalBytes};
+ghost use Rattle.composite.specs.Canonical.{detailOf, canonicalBytes, codedAs};
 use crate::gather;
 use crate::writer;
 use iscc::code::Code;
@@ -19,7 +19,7 @@ use units::verdict;
 use units::verdict::Verdict;
 
 // No code, but a refusal and its detail.
-fn refused(q: Refusal, detail: usize) -> CodeRead
+pub fn refused(q: Refusal, detail: usize) -> CodeRead
     ensures { λ r. ⌜ r ≡ codeReadAs detail (refuse q) ⌝ }
 {
     let code = Code {
@@ -41,19 +41,6 @@ fn accepted(code: Code) -> CodeRead
     }
 }
 
-// The code of one item: its own bytes.
-fn of_item(bytes: &[u8]) -> Code
-    requires { ⌜ length (now bytes) ≤ 42 ⌝ }
-    ensures { λ r. ⌜ r ≡ codeAs (now (bytes .entry)) ⌝ }
-{
-    let mut area = [0u8; 42];
-    bytes::copy(bytes, &mut area);
-    Code {
-        bytes: area,
-        length: bytes.len(),
-    }
-}
-
 // The code of a list of two or more: 10 to 14.
 pub(crate) fn of_list(bytes: &[u8], list: Summary) -> CodeRead
     requires { ⌜ Listed (now bytes) list ⌝ }
@@ -69,20 +56,66 @@ pub(crate) fn of_list(bytes: &[u8], list: Summary) -> CodeRead
     }
 }
 
-// The code of items laid end to end. Tests 7 to 9 from the left; of two or more items 10 to 14. No bytes are 7.
-pub fn read(bytes: &[u8]) -> CodeRead
-    ensures { λ r. ⌜ r ≡ codeReadAs (detailOf (now (bytes .entry))) (canonicalBytes (now (bytes .entry))) ⌝ }
+// How many bytes a code has that was written; or why there is none, and the refusal's detail.
+enum Coded {
+    Length(usize),
+    Refused(Refusal, usize),
+}
+
+// Writes the code of a list of two or more to the front of an area that has room for every code.
+fn write_list(bytes: &[u8], list: Summary, out: &mut [u8]) -> Coded
+    requires { ⌜ Listed (now bytes) list × (42 ≤ length (now out)) ⌝ }
+    ensures answer { λ r. ⌜ r ≡ codedAs (detailOf (now (bytes .entry))) (composedBytes (now (bytes .entry))) ⌝ }
+    ensures area { λ _. ⌜ now (out .exit) ≡ areaAfter (composedBytes (now (bytes .entry))) (now (out .entry)) ⌝ }
+{
+    let made = of_list(bytes, list);
+    let answer = made.answer;
+    match answer {
+        CodeAnswer::Refused(q, detail) => Coded::Refused(q, detail),
+        CodeAnswer::Accepted => {
+            let code = made.code.bytes;
+            let length = made.code.length;
+            bytes::copy(&code[0..length], out);
+            Coded::Length(length)
+        }
+    }
+}
+
+// Writes the code of items laid end to end: of one item its own bytes.
+fn write(bytes: &[u8], out: &mut [u8]) -> Coded
+    requires { ⌜ 42 ≤ length (now out) ⌝ }
+    ensures answer { λ r. ⌜ r ≡ codedAs (detailOf (now (bytes .entry))) (canonicalBytes (now (bytes .entry))) ⌝ }
+    ensures area { λ _. ⌜ now (out .exit) ≡ areaAfter (canonicalBytes (now (bytes .entry))) (now (out .entry)) ⌝ }
 {
     let read = units::reader::read(bytes);
     let answer = read.answer;
     let list = read.list;
     match answer {
-        Reading::Refused(q, index) => refused(q, index),
+        Reading::Refused(q, index) => Coded::Refused(q, index),
         Reading::Items => {
             if list.count < 2 {
-                return accepted(of_item(bytes));
+                bytes::copy(bytes, out);
+                return Coded::Length(bytes.len());
             }
-            of_list(bytes, list)
+            write_list(bytes, list, out)
         }
+    }
+}
+
+// The code of items laid end to end. Tests 7 to 9 from the left; of two or more items 10 to 14. No bytes are 7.
+// The bytes are written once, to the area that is answered: a code that is handed on by value is copied at each step.
+pub fn read(bytes: &[u8]) -> CodeRead
+    ensures { λ r. ⌜ r ≡ codeReadAs (detailOf (now (bytes .entry))) (canonicalBytes (now (bytes .entry))) ⌝ }
+{
+    let mut area = [0u8; 42];
+    match write(bytes, &mut area) {
+        Coded::Length(length) => {
+            let code = Code {
+                bytes: area,
+                length,
+            };
+            accepted(code)
+        }
+        Coded::Refused(q, detail) => refused(q, detail),
     }
 }

@@ -3,10 +3,10 @@ use Prim.Native.Nat.{ℕ, _-_, _≤_, _<_}
 use mathlib.Core.Path.{_≡_, refl, sym, _∙_, ap}
 use mathlib.Core.List.{List, _++_}
 use native.Mathlib.Omega.{arith}
-use lib.ListN.{length, take, drop, replicate}
+use lib.ListN.{length, take, drop}
 use lib.Seq.{take-length, length-take-le}
 use borrow.Author.Tests.{le-leb, lt-leb}
-use Rattle.iscc.specs.Refusals.{Refusal, areaTooShort}
+use Rattle.iscc.specs.Refusals.{Refusal, longText, areaTooShort}
 use Rattle.iscc.specs.Answer.{Answer, accept, refuse, _>>=_, into, areaAfter}
 use Rattle.iscc.specs.Item.{Item, itemBytes, itemOf}
 use Rattle.iscc.specs.Items.{readItems, meaningOfItems}
@@ -15,13 +15,13 @@ use Rattle.iscc.specs.Representation.{codeReadAs}
 use Rattle.iscc.specs.declared.code.CodeRead.{CodeRead}
 use Rattle.iscc.specs.declared.code.CodeAnswer.the-variants as coded
 use Rattle.iscc.specs.declared.written.Written.the-variants as written
-use Rattle.iscc.proofs.Codes.{no-code, code-size}
+use Rattle.iscc.proofs.Codes.{code-size}
 use Rattle.composite.specs.Canonical.{detailOf, canonicalBytes}
 use Rattle.door.specs.Payloads.{payloadDetail, payloadAnswerAs}
 use Rattle.door.specs.Codes.{codeDetail}
 use Rattle.door.specs.declared.payload.PayloadAnswer.{PayloadAnswer}
 use Rattle.door.specs.declared.payload.PayloadAnswer.the-variants as payload
-use Rattle.door.proofs.Payloads.{payload-fits}
+use Rattle.door.proofs.Payloads.{payload-fits, payload-long}
 use Rattle.door.proofs.Answers.{Held, Told, told, payload-held, payload-not, code-held, code-not}
 
 -- ---- the code is that of the payload
@@ -38,17 +38,22 @@ code-behind t = go (payload t)
     go (accept bs) = items (readItems bs)
     go (refuse q) = refl
 
+-- a payload that is refused
+not-found : (t : List ℕ) (q : Refusal) (p : ℕ) → payload t ≡ refuse q → payloadDetail t ≡ p → codeReadAs p (refuse q) ≡ codeReadAs (codeDetail t) (codeBytes t)
+unfolding codeDetail
+not-found t q p e d =
+    let c : codeBytes t ≡ refuse q = code-behind t ∙ ap (λ (x : Answer (List ℕ)). x >>= canonicalBytes) e in
+    rw (c, e, d)
+
+pub code-long : (t : List ℕ) (r : CodeRead) → 1024 < length t → r ≡ codeReadAs 0 (refuse longText) → r ≡ codeReadAs (codeDetail t) (codeBytes t)
+code-long t r l e = let h = payload-long t l in e ∙ not-found t longText 0 (h .0) (h .1)
+
 module _ (t : List ℕ) (r : PayloadAnswer) (answer : r ≡ payloadAnswerAs (payloadDetail t) (into 50 (payload t))) where
   told-as : r ≡ payloadAnswerAs (payloadDetail t) (payload t)
   told-as = answer ∙ ap (payloadAnswerAs (payloadDetail t)) (payload-fits t)
 
-  pub none-found : (q : Refusal) (p : ℕ) → r ≡ payload.Refused q p
-      → record { answer = coded.Refused q p; code = record { bytes = replicate 42 0; length = 0 } } ≡ codeReadAs (codeDetail t) (codeBytes t)
-  unfolding codeDetail
-  none-found q p e =
-      let h = payload-not (payloadDetail t) (payload t) q p (sym e ∙ told-as) in
-      let c : codeBytes t ≡ refuse q = code-behind t ∙ ap (λ (x : Answer (List ℕ)). x >>= canonicalBytes) (h .0) in
-      rw (c, h .0, h .1, no-code)
+  pub none-found : (q : Refusal) (p : ℕ) (s : CodeRead) → r ≡ payload.Refused q p → s ≡ codeReadAs p (refuse q) → s ≡ codeReadAs (codeDetail t) (codeBytes t)
+  none-found q p s e f = let h = payload-not (payloadDetail t) (payload t) q p (sym e ∙ told-as) in f ∙ not-found t q p (h .0) (h .1)
 
   module _ (n : ℕ) (a z : List ℕ) (counted : r ≡ payload.Length n) (after : a ≡ areaAfter (into 50 (payload t)) z) where
     bytes-are : Held (payload t) a n

@@ -13,8 +13,6 @@ use borrow.Author.Tests.{eq-eqb, ne-eqb}
 use Rattle.iscc.specs.Doors.{isBlank, trimStart, keep, trimEnd, schemeLength, dropHyphens, trimmed, behindScheme, cleaned}
 use Rattle.iscc.proofs.Parts.{drop-take}
 use Rattle.door.specs.Offsets.{blanksIn, start, spanOf, offsetIn, offsetOf}
-use Rattle.door.specs.Runs.{runAs}
-use Rattle.door.specs.declared.run.Run.{Run}
 use Rattle.door.specs.declared.span.Span.{Span}
 
 -- ---- the span behind the scheme
@@ -66,9 +64,9 @@ span-is t s e =
     let c : b + n - (b + k) ≡ n - k = omega arith in
     rw (e, c) (sym (ap (drop k) (trimmed-is t) ∙ drop-take k n (drop b t) ∙ ap (take (n - k)) (drop-drop k b t)))
 
-pub cleaned-is : (t : List ℕ) (s : Span) (r : Run) → s ≡ spanOf t → r ≡ runAs (dropHyphens (take (s .to - s .from) (drop (s .from) t))) → r ≡ runAs (cleaned t)
+pub cleaned-is : (t : List ℕ) (s : Span) → s ≡ spanOf t → dropHyphens (take (s .to - s .from) (drop (s .from) t)) ≡ cleaned t
 unfolding cleaned
-cleaned-is t s r e f = f ∙ ap (λ (l : List ℕ). runAs (dropHyphens l)) (span-is t s e)
+cleaned-is t s e = ap dropHyphens (span-is t s e)
 
 pub offset-is : (t : List ℕ) (s : Span) (i r : ℕ) → s ≡ spanOf t → r ≡ offsetIn (take (s .to - s .from) (drop (s .from) t)) i → s .from + r ≡ offsetOf t i
 unfolding offsetOf

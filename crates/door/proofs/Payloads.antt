@@ -1,9 +1,10 @@
 -- The bytes that a typed text holds: the answer from its tests.
 use Prim.Native.Nat.{ℕ, zero, suc, _-_, _*_, _/_, _≤_, _<_}
 use mathlib.Core.Path.{_≡_, refl, sym, _∙_, ap}
+use mathlib.Core.Bool.{Bool, true}
 use mathlib.Core.List.{List}
 use native.Mathlib.Omega.{arith}
-use lib.ListN.{length, take}
+use lib.ListN.{length, take, drop}
 use borrow.Author.Tests.{lt-ltb, le-ltb, le-leb, lt-leb, leb-true}
 use Rattle.iscc.specs.Refusals.{Refusal, longText, emptyText, longRun}
 use Rattle.iscc.specs.Answer.{Answer, accept, refuse, _>>_, _otherwise_, into, areaAfter}
@@ -11,7 +12,7 @@ use Rattle.iscc.specs.Lists.{firstNot}
 use Rattle.iscc.specs.Digits.{byteCount}
 use Rattle.iscc.specs.Alphabet.{isDigit, decode}
 use Rattle.iscc.specs.Base32.{base32, readBase32}
-use Rattle.iscc.specs.Doors.{cleaned, decodeRun, payload}
+use Rattle.iscc.specs.Doors.{dropHyphens, cleaned, decodeRun, payload}
 use Rattle.iscc.specs.Representation.{writtenAs}
 use Rattle.iscc.specs.declared.written.Written.{Written}
 use Rattle.iscc.specs.declared.written.Written.the-variants as written
@@ -20,13 +21,15 @@ use Rattle.iscc.proofs.Answer.{passed}
 use Rattle.iscc.proofs.Alphabet.{encode-decode}
 use Rattle.iscc.proofs.Base32.{sound32}
 use Rattle.iscc.proofs.Doors.{run-of}
-use Rattle.door.specs.Offsets.{offsetOf}
-use Rattle.door.specs.Runs.{runAs}
+use Rattle.door.specs.Offsets.{spanOf, offsetOf}
+use Rattle.door.specs.Runs.{runAs, noHyphen}
 use Rattle.door.specs.Payloads.{firstBad, badOffset, payloadDetail, payloadAnswerAs}
 use Rattle.door.specs.declared.run.Run.{Run}
+use Rattle.door.specs.declared.span.Span.{Span}
 use Rattle.door.specs.declared.payload.PayloadAnswer.{PayloadAnswer}
 use Rattle.door.specs.declared.payload.PayloadAnswer.the-variants.{Length, Refused}
-use Rattle.door.proofs.Runs.{padded-front, length-padded}
+use Rattle.door.proofs.Runs.{padded-front, length-padded, plain-run}
+use Rattle.door.proofs.Offsets.{cleaned-is}
 
 -- ---- the first bad character
 
@@ -68,42 +71,31 @@ Answered t d r e = (r ≡ payloadAnswerAs (payloadDetail t) (into (length d) (pa
 refused : (t d : List ℕ) (q : Refusal) → payload t ≡ refuse q → payloadDetail t ≡ 0 → Answered t d (Refused q 0) d
 refused t d q e z = rw (e, z) (refl, refl)
 
--- ---- 2, 1, 3
+-- ---- 1, 3
 
-pub payload-long : (t d : List ℕ) → 1024 < length t → Answered t d (Refused longText 0) d
-unfolding payload payloadDetail
-payload-long t d l = let b = lt-leb (length t) 1024 l in refused t d longText (rw b) (rw b)
+over-long : (t d : List ℕ) → length t ≤ 1024 → 80 < length (cleaned t) → Answered t d (Refused longRun 0) d
+unfolding payload decodeRun payloadDetail
+over-long t d short l =
+    let a = le-leb (length t) 1024 short in
+    let b = lt-leb (length (cleaned t)) 80 l in
+    refused t d longRun (rw (a, lt-ltb 0 (length (cleaned t)) (omega arith), b)) (rw (a, b))
 
-module _ (t : List ℕ) (r : Run) (short : length t ≤ 1024) (of : r ≡ runAs (cleaned t)) where
-  counted : r .count ≡ length (cleaned t)
-  counted = ap (λ (r : Run). r .count) of
+module _ (t chars : List ℕ) (short : length t ≤ 1024) (of : chars ≡ cleaned t) where
+  counted : length chars ≡ length (cleaned t)
+  counted = ap length of
 
-  pub payload-empty : (d : List ℕ) → r .count ≡ 0 → Answered t d (Refused emptyText 0) d
+  pub run-empty : (d : List ℕ) → length chars ≡ 0 → Answered t d (Refused emptyText 0) d
   unfolding payload decodeRun payloadDetail badOffset
-  payload-empty d e =
+  run-empty d e =
       let a = le-leb (length t) 1024 short in
       let n : length (cleaned t) ≡ 0 = sym counted ∙ e in
       refused t d emptyText (rw (a, n)) (rw (a, n, le-ltb (firstBad t) 0 (omega arith)))
 
-  pub payload-over : (d : List ℕ) → 80 < r .count → Answered t d (Refused longRun 0) d
-  unfolding payload decodeRun payloadDetail
-  payload-over d l =
-      let a = le-leb (length t) 1024 short in
-      let n = counted in
-      let b = lt-leb (length (cleaned t)) 80 (omega arith) in
-      refused t d longRun (rw (a, lt-ltb 0 (length (cleaned t)) (omega arith), b)) (rw (a, b))
-
-  pub chars-length : length (r .chars) ≡ 80
-  chars-length = ap (λ (r : Run). length (r .chars)) of ∙ length-padded 80 (cleaned t)
+  pub run-over : (d : List ℕ) → 80 < length chars → Answered t d (Refused longRun 0) d
+  run-over d l = let n = counted in over-long t d short (omega arith)
 
   -- ---- 4, 5, 6, 15: as the base32 reader says
-  module _ (some : r .count ≡ 0 → ⊥) (most : r .count ≤ 80) where
-    pub characters : take (r .count - 0) (r .chars) ≡ cleaned t
-    characters =
-        let n = counted in
-        let k : r .count - 0 ≡ length (cleaned t) = omega arith in
-        ap (λ (j : ℕ). take j (r .chars)) k ∙ ap (λ (r : Run). take (length (cleaned t)) (r .chars)) of ∙ padded-front 80 (cleaned t) (omega arith)
-
+  module _ (some : length chars ≡ 0 → ⊥) (most : length chars ≤ 80) where
     run-decoded : payload t ≡ decode base32 (cleaned t)
     unfolding payload
     run-decoded =
@@ -115,10 +107,10 @@ module _ (t : List ℕ) (r : Run) (short : length t ≤ 1024) (of : r ≡ runAs 
     unfolding payloadDetail
     pointed = let n = counted in rw (le-leb (length t) 1024 short, le-leb (length (cleaned t)) 80 (omega arith))
 
-    module _ (cs d e : List ℕ) (w : Written) (passed : cs ≡ cleaned t)
-        (answered : w ≡ writtenAs (readBase32 cs (length d))) (after : e ≡ areaAfter (readBase32 cs (length d)) d) where
-      read-is : readBase32 cs (length d) ≡ into (length d) (payload t)
-      read-is = rw passed (ap (into (length d)) (sym run-decoded))
+    module _ (d e : List ℕ) (w : Written)
+        (answered : w ≡ writtenAs (readBase32 chars (length d))) (after : e ≡ areaAfter (readBase32 chars (length d)) d) where
+      read-is : readBase32 chars (length d) ≡ into (length d) (payload t)
+      read-is = rw of (ap (into (length d)) (sym run-decoded))
 
       area-after : e ≡ areaAfter (into (length d) (payload t)) d
       area-after = after ∙ ap (λ (x : Answer (List ℕ)). areaAfter x d) read-is
@@ -126,11 +118,37 @@ module _ (t : List ℕ) (r : Run) (short : length t ≤ 1024) (of : r ≡ runAs 
       answered-as : w ≡ writtenAs (into (length d) (payload t))
       answered-as = answered ∙ ap writtenAs read-is
 
-      pub payload-accepted : (n : ℕ) → w ≡ written.Length n → Answered t d (Length n) e
-      payload-accepted n f = (as-accepted (payloadDetail t) (into (length d) (payload t)) n (sym f ∙ answered-as), area-after)
+      pub run-accepted : (n : ℕ) → w ≡ written.Length n → Answered t d (Length n) e
+      run-accepted n f = (as-accepted (payloadDetail t) (into (length d) (payload t)) n (sym f ∙ answered-as), area-after)
 
-      pub payload-refused : (q : Refusal) (k : ℕ) → w ≡ written.Refused q → k ≡ badOffset t → Answered t d (Refused q k) e
-      payload-refused q k f g = (rw g (ap (Refused q) (sym pointed) ∙ as-refused (payloadDetail t) (into (length d) (payload t)) q (sym f ∙ answered-as)), area-after)
+      pub run-refused : (q : Refusal) (k : ℕ) → w ≡ written.Refused q → k ≡ badOffset t → Answered t d (Refused q k) e
+      run-refused q k f g = (rw g (ap (Refused q) (sym pointed) ∙ as-refused (payloadDetail t) (into (length d) (payload t)) q (sym f ∙ answered-as)), area-after)
+
+-- ---- a run without hyphens is read where it stands
+
+pub plain-cleaned : (t : List ℕ) (s : Span) (b : Bool) → s ≡ spanOf t → b ≡ noHyphen (take (s .to - s .from) (drop (s .from) t)) → b ≡ true
+    → take (s .to - s .from) (drop (s .from) t) ≡ cleaned t
+plain-cleaned t s b e f h = sym (plain-run _ (sym f ∙ h)) ∙ cleaned-is t s e
+
+-- ---- the run of a text with hyphens
+
+module _ (t typed : List ℕ) (r : Run) (of : r ≡ runAs (dropHyphens typed)) (passed : dropHyphens typed ≡ cleaned t) where
+  run-is : r ≡ runAs (cleaned t)
+  run-is = of ∙ ap runAs passed
+
+  pub hyphened-over : (d : List ℕ) → length t ≤ 1024 → 80 < r .count → Answered t d (Refused longRun 0) d
+  hyphened-over d short l =
+      let n : r .count ≡ length (cleaned t) = ap (λ (r : Run). r .count) run-is in
+      over-long t d short (omega arith)
+
+  pub chars-length : length (r .chars) ≡ 80
+  chars-length = ap (λ (r : Run). length (r .chars)) run-is ∙ length-padded 80 (cleaned t)
+
+  pub characters : r .count ≤ 80 → take (r .count - 0) (r .chars) ≡ cleaned t
+  characters most =
+      let n : r .count ≡ length (cleaned t) = ap (λ (r : Run). r .count) run-is in
+      let k : r .count - 0 ≡ length (cleaned t) = omega arith in
+      ap (λ (j : ℕ). take j (r .chars)) k ∙ ap (λ (r : Run). take (length (cleaned t)) (r .chars)) run-is ∙ padded-front 80 (cleaned t) (omega arith)
 
 -- ---- an area of 50 bytes has room: 80 characters hold no more
 
@@ -150,3 +168,9 @@ payload-most t bs e =
 
 pub payload-fits : (t : List ℕ) → into 50 (payload t) ≡ payload t
 payload-fits t = into-fits 50 (payload t) (payload-most t)
+
+-- ---- 2
+
+pub payload-long : (t : List ℕ) → 1024 < length t → (payload t ≡ refuse longText) × (payloadDetail t ≡ 0)
+unfolding payload payloadDetail
+payload-long t l = let b = lt-leb (length t) 1024 l in (rw b, rw b)

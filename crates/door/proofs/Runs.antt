@@ -1,13 +1,17 @@
 -- The run that the code holds, one character more.
 use Prim.Native.Nat.{ℕ, suc, _+_, _-_, _≤_, _<_}
-use mathlib.Core.Path.{_≡_, refl, sym, _∙_, ap}
-use mathlib.Core.List.{List, [], _∷_, _++_}
+use mathlib.Core.Path.{_≡_, refl, sym, _∙_, ap, ap₂}
+use mathlib.Core.Bool.{Bool, true, false, cond, not, _&&_}
+use mathlib.Core.List.{List, [], _∷_, _++_, map}
 use native.Mathlib.Omega.{arith}
-use lib.ListN.{length, getD, take, set, replicate, length-append, length-take, length-replicate}
-use lib.Seq.{take-all, take-append-le, set-at, append-snoc, take-at}
+use lib.ListN.{length, getD, take, set, replicate, length-append, length-take, length-replicate, drop, take-append-drop}
+use lib.Seq.{take-all, take-append-le, set-at, append-snoc, take-at, drop-drop}
+use lib.Dec.{eqb, ltb}
+use Rattle.iscc.specs.Digits.{allBelow}
 use Rattle.iscc.specs.Doors.{dropHyphens}
 use Rattle.iscc.proofs.Text.{dropHyphens-skip, dropHyphens-keep}
-use Rattle.door.specs.Runs.{padded, runAs}
+use Rattle.iscc.proofs.Parts.{rest-is}
+use Rattle.door.specs.Runs.{padded, runAs, noHyphen}
 use Rattle.door.specs.declared.run.Run.{Run}
 
 module _ (n : ℕ) (cs : List ℕ) (c : ℕ) where
@@ -90,3 +94,62 @@ run-all t chars count i r l k e =
     let p : count ≡ length (dropHyphens t) = k .counted ∙ ap (λ (u : List ℕ). length (dropHyphens u)) a in
     let q : chars ≡ padded 80 (dropHyphens t) = k .stored ∙ ap (λ (u : List ℕ). padded 80 (dropHyphens u)) a in
     e ∙ rw (p, q)
+
+-- ---- a text without hyphens is its own run
+
+pub none-marked : (t : List ℕ) → allBelow 1 (map (λ c. cond (eqb c 45) 1 0) t) ≡ noHyphen t
+unfolding allBelow noHyphen
+none-marked [] = refl
+none-marked (c ∷ t) = go (eqb c 45) (none-marked t)
+  where
+    go : (b : Bool) → allBelow 1 (map (λ c. cond (eqb c 45) 1 0) t) ≡ noHyphen t
+        → (ltb (cond b 1 0) 1 && allBelow 1 (map (λ c. cond (eqb c 45) 1 0) t)) ≡ (not b && noHyphen t)
+    go true ih = refl
+    go false ih = ih
+
+pub plain-run : (t : List ℕ) → noHyphen t ≡ true → dropHyphens t ≡ t
+unfolding dropHyphens noHyphen
+plain-run [] e = refl
+plain-run (c ∷ t) e = go (eqb c 45) e (plain-run t)
+  where
+    go : (b : Bool) → (not b && noHyphen t) ≡ true → (noHyphen t ≡ true → dropHyphens t ≡ t) → cond b (dropHyphens t) (c ∷ dropHyphens t) ≡ c ∷ t
+    go true f ih = let z : _≡_ {A = ℕ} 0 1 = cc in absurd (omega arith)
+    go false f ih = ap (_∷_ c) (ih f)
+
+none-append : (a b : List ℕ) → noHyphen (a ++ b) ≡ (noHyphen a && noHyphen b)
+unfolding noHyphen
+none-append [] b = refl
+none-append (c ∷ a) b = go (not (eqb c 45)) (none-append a b)
+  where
+    go : (x : Bool) → noHyphen (a ++ b) ≡ (noHyphen a && noHyphen b) → (x && noHyphen (a ++ b)) ≡ ((x && noHyphen a) && noHyphen b)
+    go true ih = ih
+    go false ih = refl
+
+negated : (b x : Bool) → not b ≡ x → b ≡ not x
+negated true x e = ap not e
+negated false x e = ap not e
+
+-- none of the first i characters is a hyphen
+pub record Clear (t : List ℕ) (i : ℕ) : Type 0 where
+  pub within : i ≤ length t
+  pub rest : noHyphen t ≡ noHyphen (drop i t)
+
+pub clear-none : (t : List ℕ) → Clear t 0
+clear-none t = record { within = omega arith; rest = refl }
+
+module _ (t : List ℕ) (i n : ℕ) (b : Bool) (k : Clear t i) (found : b ≡ noHyphen (take (i + n - i) (drop i t))) where
+  clear-part : noHyphen t ≡ (b && noHyphen (drop (i + n) t))
+  clear-part =
+      let m : i + n - i ≡ n = omega arith in
+      let f : b ≡ noHyphen (take n (drop i t)) = found ∙ ap (λ (j : ℕ). noHyphen (take j (drop i t))) m in
+      k .rest ∙ ap noHyphen (sym (take-append-drop n (drop i t))) ∙ none-append (take n (drop i t)) (drop n (drop i t))
+      ∙ ap₂ (λ (x : Bool) (u : List ℕ). x && noHyphen u) (sym f) (drop-drop n i t)
+
+  pub clear-next : n ≤ length t - i → 0 < n → not b ≡ false → Clear t (i + n)
+  clear-next l z e = record { within = omega arith; rest = clear-part ∙ ap (λ (x : Bool). x && noHyphen (drop (i + n) t)) (negated b false e) }
+
+  pub clear-broken : not b ≡ true → false ≡ noHyphen t
+  clear-broken e = sym (clear-part ∙ ap (λ (x : Bool). x && noHyphen (drop (i + n) t)) (negated b true e))
+
+pub clear-all : (t : List ℕ) (i : ℕ) (b : Bool) → Clear t i → b ≡ noHyphen (take (length t - i) (drop i t)) → b ≡ noHyphen t
+clear-all t i b k f = f ∙ ap noHyphen (rest-is t i) ∙ sym (k .rest)

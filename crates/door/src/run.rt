@@ -1,10 +1,12 @@
 // The run of base32 characters that a typed text holds: what is left once blanks, scheme and hyphens are dropped.
 ghost use mathlib.Core.Path.{_≡_};
+ghost use mathlib.Core.Bool.{cond};
 ghost use Prim.Native.Nat.{_≤_};
 ghost use lib.ListN.{length};
-ghost use Rattle.iscc.specs.Doors.{dropHyphens, cleaned};
+ghost use lib.Dec.{eqb};
+ghost use Rattle.iscc.specs.Doors.{dropHyphens};
 ghost use Rattle.door.specs.Offsets.{offsetIn, offsetOf};
-ghost use Rattle.door.specs.Runs.{runAs};
+ghost use Rattle.door.specs.Runs.{runAs, noHyphen};
 use crate::span;
 
 // The longest run that a code may be typed as.
@@ -14,6 +16,46 @@ pub const LONGEST_RUN: usize = 80;
 pub struct Run {
     pub chars: [u8; 80],
     pub count: usize,
+}
+
+// 1 for a hyphen, else 0.
+fn hyphen(c: u8) -> u8
+    ensures { λ r. ⌜ r ≡ cond (eqb c 45) 1 0 ⌝ }
+{
+    if c == b'-' {
+        return 1;
+    }
+    0
+}
+
+// Whether no character of a part is a hyphen. It tests the largest answer alone, so that the loop has no branch.
+fn none_in(part: &[u8]) -> bool
+    ensures { λ r. ⌜ r ≡ noHyphen (now (part .entry)) ⌝ }
+{
+    let mut most = 0;
+    let mut i = 0;
+    while i < part.len() {
+        let found = hyphen(part[i]);
+        if most < found {
+            most = found;
+        }
+        i += 1;
+    }
+    most < 1
+}
+
+// Whether no character is a hyphen. It looks at sixteen at once, up to the first that have one.
+pub fn no_hyphen(typed: &[u8]) -> bool
+    ensures { λ r. ⌜ r ≡ noHyphen (now (typed .entry)) ⌝ }
+{
+    let mut i = 0;
+    while 16 <= typed.len() - i {
+        if !none_in(&typed[i..i + 16]) {
+            return false;
+        }
+        i += 16;
+    }
+    none_in(&typed[i..])
 }
 
 // What is left of the characters behind the scheme.
@@ -34,16 +76,6 @@ pub fn without_hyphens(typed: &[u8]) -> Run
         i += 1;
     }
     Run { chars, count }
-}
-
-// What is left of a text.
-pub fn clean(text: &[u8]) -> Run
-    ensures { λ r. ⌜ r ≡ runAs (cleaned (now (text .entry))) ⌝ }
-{
-    let s = span::typed_span(text);
-    let from = s.from;
-    let to = s.to;
-    without_hyphens(&text[from..to])
 }
 
 // The offset among the characters behind the scheme of the one with this index in the run.

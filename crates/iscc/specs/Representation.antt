@@ -5,7 +5,6 @@ use lib.ListN.{length, take, replicate}
 use Rattle.iscc.specs.Answer.{Answer, accept, refuse}
 use Rattle.iscc.specs.Lists.{zeroFilled}
 use Rattle.iscc.specs.declared.code.Code.{Code}
-use Rattle.iscc.specs.declared.code.CodeAnswer.{CodeAnswer}
 use Rattle.iscc.specs.declared.code.CodeAnswer.the-variants as answered
 use Rattle.iscc.specs.declared.code.CodeRead.{CodeRead}
 use Rattle.iscc.specs.Permitted.{number, unitTypes, unitCount}
@@ -51,11 +50,7 @@ outcomeAs w = record { number = numberIn w; length = lengthIn w }
 unfoldable pub codeAs : List ℕ → Code
 codeAs bs = record { bytes = zeroFilled 42 bs; length = length bs }
 
--- the answer of what reads or makes a code, with the detail k of its refusal
-abbrev pub codeAnswerAs : ℕ → Answer (List ℕ) → CodeAnswer
-codeAnswerAs k (accept bs) = answered.Accepted
-codeAnswerAs k (refuse q) = answered.Refused q k
-
+-- what reads or makes a code answers: the code, or the refusal with its detail k, and no bytes
 abbrev pub codeReadAs : ℕ → Answer (List ℕ) → CodeRead
 codeReadAs k (accept bs) = record { answer = answered.Accepted; code = codeAs bs }
 codeReadAs k (refuse q) = record { answer = answered.Refused q k; code = codeAs [] }

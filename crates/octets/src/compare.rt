@@ -3,7 +3,7 @@ ghost use mathlib.Core.Path.{_≡_};
 ghost use Rattle.iscc.specs.Lists.{sameBytes};
 ghost use Rattle.octets.specs.Order.{before};
 
-// Whether two byte strings are the same. It tests the largest difference alone, so that the loop has no branch.
+// Whether two byte strings are the same. Only the largest difference is tested, so that no byte ends the loop and many go at a time.
 pub fn same(a: &[u8], b: &[u8]) -> bool
     ensures { λ r. ⌜ r ≡ sameBytes (now (a .entry)) (now (b .entry)) ⌝ }
 {

@@ -60,7 +60,7 @@ fn in_row(main_type: MainType, subtype: u32, length_number: u32) -> bool
 }
 
 // Whether the table permits a header. Version is always 0.
-pub fn permits(main_type: MainType, subtype: u32, version: u32, length_number: u32) -> bool
+pub(crate) fn permits(main_type: MainType, subtype: u32, version: u32, length_number: u32) -> bool
     ensures { λ r. ⌜ r ≡ permitsAs «main_type» subtype version «length_number» ⌝ }
 {
     if !in_row(main_type, subtype, length_number) {
