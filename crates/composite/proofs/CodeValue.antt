@@ -94,10 +94,10 @@ module _ (k : ℕ) (w : Coded) (r : CodeRead) where
 -- ---- a code that was found, copied to an area
 
 module _ (k : ℕ) (x : Answer (List ℕ)) (r : CodeRead) (e : r ≡ codeReadAs k x) where
-  pub told-refused : (q : Refusal) (j : ℕ) → r .answer ≡ answers.Refused q j → x ≡ refuse q
-  told-refused q j f = go x e
+  told-both : (q : Refusal) (j : ℕ) → r .answer ≡ answers.Refused q j → (x ≡ refuse q) × (k ≡ j)
+  told-both q j f = go x e
     where
-      go : (y : Answer (List ℕ)) → r ≡ codeReadAs k y → y ≡ refuse q
+      go : (y : Answer (List ℕ)) → r ≡ codeReadAs k y → (y ≡ refuse q) × (k ≡ j)
       go (accept out) h =
           let a : r .answer ≡ answers.Accepted = ap (λ (z : CodeRead). z .answer) h in
           let o : _≡_ {A = ℕ} 0 1 = cc in
@@ -105,21 +105,14 @@ module _ (k : ℕ) (x : Answer (List ℕ)) (r : CodeRead) (e : r ≡ codeReadAs 
       go (refuse p) h =
           let a : r .answer ≡ answers.Refused p k = ap (λ (z : CodeRead). z .answer) h in
           let o : p ≡ q = cc in
-          ap refuse o
+          let i : k ≡ j = cc in
+          (ap refuse o, i)
+
+  pub told-refused : (q : Refusal) (j : ℕ) → r .answer ≡ answers.Refused q j → x ≡ refuse q
+  told-refused q j f = told-both q j f .0
 
   pub refused-coded : (d : List ℕ) (q : Refusal) (j : ℕ) → r .answer ≡ answers.Refused q j → (coded.Refused q j ≡ codedAs k x) × (d ≡ areaAfter x d)
-  refused-coded d q j f = go x e
-    where
-      go : (y : Answer (List ℕ)) → r ≡ codeReadAs k y → (coded.Refused q j ≡ codedAs k y) × (d ≡ areaAfter y d)
-      go (accept out) h =
-          let a : r .answer ≡ answers.Accepted = ap (λ (z : CodeRead). z .answer) h in
-          let o : _≡_ {A = ℕ} 0 1 = cc in
-          absurd (omega arith)
-      go (refuse p) h =
-          let a : r .answer ≡ answers.Refused p k = ap (λ (z : CodeRead). z .answer) h in
-          let o : q ≡ p = cc in
-          let i : j ≡ k = cc in
-          (ap₂ coded.Refused o i, refl)
+  refused-coded d q j f = let t = told-both q j f in rw (t .0, t .1) (refl, refl)
 
   pub told-code : r .answer ≡ answers.Accepted → (out : List ℕ) × (x ≡ accept out) × (r .code ≡ codeAs out)
   told-code f = go x e

@@ -1,17 +1,18 @@
 -- The one code of a list: of one item its own bytes, of more the composite's, which fit 42.
-use Prim.Native.Nat.{ℕ, _≤_, _<_}
+use Prim.Native.Nat.{ℕ, _≤_}
 use mathlib.Core.Path.{_≡_, refl, sym, _∙_, ap}
 use mathlib.Core.List.{List, [], _∷_, append-nil}
 use native.Mathlib.Omega.{arith}
 use lib.ListN.{length}
 use Rattle.iscc.specs.Answer.{accept, _>>=_}
 use Rattle.iscc.specs.Digits.{Below}
-use Rattle.iscc.specs.Item.{Item, itemBytes, itemOf}
-use Rattle.iscc.specs.Items.{itemsBytes, compositeFrom, meaningOfItems}
+use Rattle.iscc.specs.Item.{Item, itemBytes, itemOf, readOne}
+use Rattle.iscc.specs.Items.{itemsBytes, readItems, compositeFrom, meaningOfItems}
 use Rattle.iscc.proofs.Answer.{answered}
 use Rattle.iscc.proofs.Item.{PermittedItem, item-most}
 use Rattle.iscc.proofs.Meaning.{item-back, item-permitted}
-use Rattle.iscc.proofs.Items.{ReadAll, items-read, two-or-more, compositeFrom-permitted}
+use Rattle.iscc.proofs.Items.{ReadAll, read-items, items-read, two-or-more, compositeFrom-permitted}
+use Rattle.iscc.proofs.Split.{read-one, one-read}
 use Rattle.units.specs.declared.summary.Summary.{Summary}
 use Rattle.composite.specs.Joined.{Listed, composedBytes}
 use Rattle.composite.specs.Canonical.{canonicalBytes}
@@ -23,15 +24,23 @@ one-is : (bs : List ℕ) (x : Item) → ReadAll bs (x ∷ []) → (PermittedItem
 unfolding itemsBytes
 one-is bs x r = (r .permitted .0, sym (append-nil (itemBytes x)) ∙ r .again)
 
+-- exactly one item is read as a list of one, and its own bytes are the code
+pub canonical-one : (bs : List ℕ) (i : Item) → Below 256 bs → readOne bs ≡ accept i → canonicalBytes bs ≡ accept bs
+unfolding canonicalBytes meaningOfItems itemsBytes
+canonical-one bs i b e =
+    let r = one-read bs i b e in
+    let s : readItems bs ≡ accept (i ∷ []) = ap readItems (sym (append-nil (itemBytes i) ∙ r .1)) ∙ read-items i [] (r .0, tt) in
+    rw (s, item-back i (r .0)) (ap accept (r .1))
+
 module _ (bs : List ℕ) (l : Summary) (i : Listed bs l) where
-  pub canonical-one : l .count < 2 → Below 256 bs → (canonicalBytes bs ≡ accept bs) × (length bs ≤ 42)
-  unfolding canonicalBytes meaningOfItems
-  canonical-one h b =
-      rw (i .read)
-      (one-or-more bs (i .items) (λ is. length is < 2 → ReadAll bs is → ((meaningOfItems is >>= λ m. accept (itemBytes (itemOf m))) ≡ accept bs) × (length bs ≤ 42)) (i .read)
-      (λ x q c r. let w = one-is bs x r in (rw (item-back x (w .0)) (ap accept (w .1)), omega (arith, item-most x (w .0), ap length (w .1))))
-      (λ x y ys q c r. absurd (omega arith))
-      (omega (arith, i .summary .count)) (items-read bs (i .items) b (i .read)))
+  -- bytes that are not exactly one item hold two or more
+  pub two-at-least : Below 256 bs → ((x : Item) → readOne bs ≡ accept x → ⊥) → 2 ≤ l .count
+  two-at-least b n =
+      let k : 2 ≤ length (i .items) =
+      one-or-more bs (i .items) (λ is. ReadAll bs is → 2 ≤ length is) (i .read)
+      (λ x q r. let w = one-is bs x r in absurd (n x (ap readOne (sym (w .1)) ∙ read-one x (w .0))))
+      (λ x y ys q r. omega arith) (items-read bs (i .items) b (i .read)) in
+      omega (arith, i .summary .count)
 
   pub canonical-more : 2 ≤ l .count → canonicalBytes bs ≡ composedBytes bs
   unfolding canonicalBytes composedBytes meaningOfItems

@@ -2,9 +2,10 @@
 ghost use mathlib.Core.Path.{_≡_};
 ghost use Prim.Native.Nat.{_≤_};
 ghost use lib.ListN.{length};
-ghost use Rattle.iscc.specs.Answer.{refuse, areaAfter};
+ghost use Rattle.iscc.specs.Answer.{accept, refuse, areaAfter};
 ghost use Rattle.iscc.specs.Representation.{codeReadAs};
 ghost use Rattle.iscc.specs.declared.code.CodeAnswer.the-variants as answers;
+ghost use Rattle.iscc.specs.Item.{Item, readOne};
 ghost use Rattle.composite.specs.Joined.{Listed, composedBytes};
 ghost use Rattle.composite.specs.Canonical.{detailOf, canonicalBytes, codedAs};
 use crate::gather;
@@ -13,6 +14,8 @@ use iscc::code::Code;
 use iscc::code::CodeAnswer;
 use iscc::code::CodeRead;
 use iscc::refusal::Refusal;
+use unit::one;
+use unit::reader::UnitRead;
 use units::reader::Reading;
 use units::summary::Summary;
 use units::verdict;
@@ -81,9 +84,9 @@ fn write_list(bytes: &[u8], list: Summary, out: &mut [u8]) -> Coded
     }
 }
 
-// Writes the code of items laid end to end: of one item its own bytes.
-fn write(bytes: &[u8], out: &mut [u8]) -> Coded
-    requires { ⌜ 42 ≤ length (now out) ⌝ }
+// Writes the code of bytes that are not exactly one item: two or more, or none that can be read.
+fn write_items(bytes: &[u8], out: &mut [u8]) -> Coded
+    requires { ⌜ (42 ≤ length (now out)) × ((i : Item) → readOne (now bytes) ≡ accept i → ⊥) ⌝ }
     ensures answer { λ r. ⌜ r ≡ codedAs (detailOf (now (bytes .entry))) (canonicalBytes (now (bytes .entry))) ⌝ }
     ensures area { λ _. ⌜ now (out .exit) ≡ areaAfter (canonicalBytes (now (bytes .entry))) (now (out .entry)) ⌝ }
 {
@@ -92,12 +95,22 @@ fn write(bytes: &[u8], out: &mut [u8]) -> Coded
     let list = read.list;
     match answer {
         Reading::Refused(q, index) => Coded::Refused(q, index),
-        Reading::Items => {
-            if list.count < 2 {
-                bytes::copy(bytes, out);
-                return Coded::Length(bytes.len());
-            }
-            write_list(bytes, list, out)
+        Reading::Items => write_list(bytes, list, out),
+    }
+}
+
+// Writes the code of items laid end to end. Exactly one is looked for first, since most texts hold one: its own bytes are the code.
+fn write(bytes: &[u8], out: &mut [u8]) -> Coded
+    requires { ⌜ 42 ≤ length (now out) ⌝ }
+    ensures answer { λ r. ⌜ r ≡ codedAs (detailOf (now (bytes .entry))) (canonicalBytes (now (bytes .entry))) ⌝ }
+    ensures area { λ _. ⌜ now (out .exit) ≡ areaAfter (canonicalBytes (now (bytes .entry))) (now (out .entry)) ⌝ }
+{
+    let one = one::read(bytes);
+    match one {
+        UnitRead::Refused(_) => write_items(bytes, out),
+        UnitRead::Unit(_) => {
+            bytes::copy(bytes, out);
+            Coded::Length(bytes.len())
         }
     }
 }
