@@ -2,22 +2,23 @@
 use Prim.Native.Nat.{ℕ, _+_, _-_, _*_, _≤_, _<_}
 use mathlib.Core.Path.{_≡_, refl, sym, _∙_, ap}
 use mathlib.Core.Bool.{true, false}
-use mathlib.Core.List.{List, [], _++_, flatten}
+use mathlib.Core.List.{List, [], _∷_, _++_, flatten}
 use native.Mathlib.Omega.{arith}
-use lib.ListN.{length, take, drop, getD, length-append}
+use lib.ListN.{length, take, drop, getD, set, length-append, length-drop}
+use lib.Seq.{length-take-le}
 use lib.Dec.{leb}
 use borrow.Author.Tests.{le-leb, lt-leb}
 use Rattle.iscc.specs.Refusals.{areaTooShort}
 use Rattle.iscc.specs.Answer.{accept, into, areaAfter}
 use Rattle.iscc.specs.Header.{headerBytes}
-use Rattle.iscc.specs.Permitted.{Set, setOf, unitCount}
+use Rattle.iscc.specs.Permitted.{ISCC, number, Set, setOf, unitCount}
 use Rattle.iscc.specs.Meaning.{composite, Sized, Permitted}
 use Rattle.iscc.specs.Item.{itemBytes, itemOf}
 use Rattle.iscc.specs.Representation.{writtenAs}
 use Rattle.iscc.specs.declared.written.Written.{Written}
 use Rattle.iscc.specs.declared.written.Written.the-variants.{Length, Refused}
 use Rattle.iscc.proofs.Lists.{all-at}
-use Rattle.iscc.proofs.Header.{length-short}
+use Rattle.iscc.proofs.Header.{length-short, short-bytes}
 use Rattle.iscc.proofs.Permitted.{set-small, subtype-small, count-most, set-back}
 use Rattle.iscc.proofs.Parts.{over-twice}
 use Rattle.composite.specs.declared.bodies.Composite.{Composite}
@@ -36,6 +37,10 @@ module _ (out d : List ℕ) (n : ℕ) (l : length out ≡ n) where
 
   pub into-fits : (e : List ℕ) → n ≤ length d → e ≡ areaAfter (accept out) d → Answers (Length n) e
   into-fits e h q = let s : leb (length out) (length d) ≡ true = le-leb (length out) (length d) (omega arith) in rw s (ap Length (sym l), q)
+
+-- room in the part of an area behind its first n bytes
+pub part-room : (a : List ℕ) (n k : ℕ) → n + k ≤ length a → k ≤ length (take (length a - n) (drop n a))
+part-room a n k h = omega (arith, length-take-le (length a - n) (drop n a) (omega (arith, length-drop n a)), length-drop n a)
 
 -- ---- a sound composite's own bytes
 
@@ -60,7 +65,7 @@ module _ (c : Composite) (ok : Sound c) where
   code-length = length-append (headerBytes (compositeHeader c)) (laid (λ i. getD (c .bodies) i []) count) ∙ omega (arith, header-length, bodies-length)
 
   -- the header stands in front, and the bodies were written to the part behind it
-  pub code-over : (k : ℕ) (rs : List (List ℕ)) (d a e : List ℕ) → k ≡ count → rs ≡ c .bodies → a ≡ areaAfter (accept (headerBytes (compositeHeader c))) d
+  code-over : (k : ℕ) (rs : List (List ℕ)) (d a e : List ℕ) → k ≡ count → rs ≡ c .bodies → a ≡ areaAfter (accept (headerBytes (compositeHeader c))) d
       → e ≡ laid (λ i. getD rs i []) k ++ drop (k * 8) (take (length a - 2) (drop 2 a))
       → take 2 a ++ (e ++ drop (length a - 2) (drop 2 a)) ≡ areaAfter (accept (compositeBytes c)) d
   unfolding compositeBytes
@@ -71,6 +76,31 @@ module _ (c : Composite) (ok : Sound c) where
       ∙ ap (λ (x : List (List ℕ)). laid (λ i. getD x i []) count ++ drop (count * 8) (take (length a - 2) (drop 2 a))) er
       ∙ ap (λ (x : ℕ). bs ++ drop x (take (length a - 2) (drop 2 a))) (sym bodies-length) in
       over-twice (headerBytes (compositeHeader c)) bs d a e 2 (sym header-length) ea e′
+
+  -- the header's two bytes
+  front-is : headerBytes (compositeHeader c) ≡ (number ISCC * 16 + c .subtype) ∷ c .«length_number» ∷ []
+  front-is =
+      let z : 0 * 16 + c .«length_number» ≡ c .«length_number» = omega arith in
+      short-bytes (number ISCC) (c .subtype) 0 (c .«length_number») (omega arith) subtype-fits (omega arith) number-fits
+      ∙ ap (λ (x : ℕ). (number ISCC * 16 + c .subtype) ∷ x ∷ []) z
+
+  -- an area whose first two bytes were set
+  abbrev pub fronted : ℕ → List ℕ → List ℕ
+  fronted m d = set (set d 0 (m * 16 + c .subtype)) 1 (c .«length_number»)
+
+  header-set : (m : ℕ) (d : List ℕ) → m ≡ number ISCC → 2 ≤ length d → fronted m d ≡ areaAfter (accept (headerBytes (compositeHeader c))) d
+  header-set m [] e h = absurd (omega (arith, h))
+  header-set m (x ∷ []) e h = absurd (omega (arith, h))
+  header-set m (x ∷ y ∷ d) e h = rw (front-is, e)
+
+  pub code-put : (m k : ℕ) (rs : List (List ℕ)) (d e : List ℕ) → m ≡ number ISCC → k ≡ count → rs ≡ c .bodies → 2 ≤ length d
+      → e ≡ laid (λ i. getD rs i []) k ++ drop (k * 8) (take (length (fronted m d) - 2) (drop 2 (fronted m d)))
+      → take 2 (fronted m d) ++ (e ++ drop (length (fronted m d) - 2) (drop 2 (fronted m d))) ≡ areaAfter (accept (compositeBytes c)) d
+  code-put m k rs d e em ek er l ee = code-over k rs d (fronted m d) e ek er (header-set m d em l) ee
+
+  pub put-same : (a d : List ℕ) → a ≡ areaAfter (accept (compositeBytes c)) d → 2 + count * 8 ≤ length d → length a ≡ length d
+  put-same a d e h =
+      ap length e ∙ length-append (compositeBytes c) (drop (length (compositeBytes c)) d) ∙ omega (arith, code-length, length-drop (length (compositeBytes c)) d)
 
 -- ---- from a meaning
 

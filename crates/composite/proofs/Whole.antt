@@ -8,10 +8,10 @@ use Rattle.iscc.specs.Answer.{accept, _>>=_}
 use Rattle.iscc.specs.Digits.{Below}
 use Rattle.iscc.specs.Item.{Item, itemBytes, itemOf, readOne}
 use Rattle.iscc.specs.Items.{itemsBytes, readItems, compositeFrom, meaningOfItems}
-use Rattle.iscc.proofs.Answer.{answered}
+use Rattle.iscc.proofs.Answer.{answered, accept-inj}
 use Rattle.iscc.proofs.Item.{PermittedItem, item-most}
 use Rattle.iscc.proofs.Meaning.{item-back, item-permitted}
-use Rattle.iscc.proofs.Items.{ReadAll, read-items, items-read, two-or-more, compositeFrom-permitted}
+use Rattle.iscc.proofs.Items.{ReadAll, read-items, items-read, two-or-more, means-permitted}
 use Rattle.iscc.proofs.Split.{read-one, one-read}
 use Rattle.units.specs.declared.summary.Summary.{Summary}
 use Rattle.composite.specs.Joined.{Listed, composedBytes}
@@ -46,12 +46,11 @@ module _ (bs : List ℕ) (l : Summary) (i : Listed bs l) where
   unfolding canonicalBytes composedBytes meaningOfItems
   canonical-more h = rw (i .read, two-or-more (λ is. meaningOfItems is ≡ compositeFrom is) (λ x y ys. refl) (i .items) (omega (arith, i .summary .count)))
 
-  -- 42 bytes are room enough
-  pub composed-most : Below 256 bs → (out : List ℕ) → composedBytes bs ≡ accept out → length out ≤ 42
-  unfolding composedBytes
-  composed-most b out e =
-      let f : (compositeFrom (i .items) >>= λ m. accept (itemBytes (itemOf m))) ≡ accept out = rw (i .read) at e in
-      let a = answered (compositeFrom (i .items)) (λ m. accept (itemBytes (itemOf m))) f in
-      let p = compositeFrom-permitted (i .items) (a .0) (items-read bs (i .items) b (i .read) .permitted) (a .1) in
-      let q : itemBytes (itemOf (a .0)) ≡ out = cc in
-      omega (arith, item-most (itemOf (a .0)) (item-permitted (a .0) p), ap length q)
+-- 42 bytes are room enough
+pub canonical-most : (bs : List ℕ) → Below 256 bs → (out : List ℕ) → canonicalBytes bs ≡ accept out → length out ≤ 42
+unfolding canonicalBytes
+canonical-most bs b out e =
+    let r = answered (readItems bs) (λ is. meaningOfItems is >>= λ m. accept (itemBytes (itemOf m))) e in
+    let a = answered (meaningOfItems (r .0)) (λ m. accept (itemBytes (itemOf m))) (r .2) in
+    let p = means-permitted (r .0) (a .0) (items-read bs (r .0) b (r .1) .permitted) (a .1) in
+    omega (arith, item-most (itemOf (a .0)) (item-permitted (a .0) p), ap length (accept-inj (a .2)))

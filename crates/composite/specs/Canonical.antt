@@ -2,7 +2,7 @@
 use Prim.Native.Nat.{ℕ}
 use mathlib.Core.List.{List}
 use lib.ListN.{length}
-use Rattle.iscc.specs.Answer.{Answer, accept, refuse, _>>=_}
+use Rattle.iscc.specs.Answer.{Answer, accept, refuse, into, _>>=_}
 use Rattle.iscc.specs.Item.{Item, itemBytes, itemOf}
 use Rattle.iscc.specs.Items.{readItems, meaningOfItems}
 use Rattle.units.specs.Reading.{refusedIndex}
@@ -24,7 +24,11 @@ detailBy k (refuse q) = k
 unfoldable pub detailOf : List ℕ → ℕ
 detailOf bs = detailBy (refusedIndex bs) (readItems bs)
 
--- how the code tells of bytes that it wrote to an area
+-- how the code tells of bytes that it wrote to an area of so many bytes: 15 has no detail
 abbrev pub codedAs : ℕ → Answer (List ℕ) → Coded
 codedAs k (accept bs) = Length (length bs)
 codedAs k (refuse q) = Refused q k
+
+abbrev pub codedInto : ℕ → ℕ → Answer (List ℕ) → Coded
+codedInto area k (accept bs) = codedAs 0 (into area (accept bs))
+codedInto area k (refuse q) = Refused q k

@@ -99,7 +99,6 @@ pub(crate) fn from_code(bytes: &[u8], subtype: u32, length_number: usize) -> Com
     requires { ⌜ 2 + unitCount (setOf «length_number») * 8 ≤ length (now bytes) ⌝ }
     ensures { λ r. ⌜ r ≡ parts «length_number» subtype (filledBodies (λ i. take 8 (drop (2 + i * 8) (now (bytes .entry)))) (unitCount (setOf «length_number»)) 5) ⌝ }
 {
-    let set = tables::unit_set(length_number);
-    let found = bodies_behind(bytes, set.count);
+    let found = bodies_behind(bytes, tables::body_count(length_number));
     bodies::from_parts(length_number, subtype, found)
 }

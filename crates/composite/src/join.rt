@@ -6,7 +6,7 @@ ghost use Rattle.iscc.specs.Items as items;
 ghost use Rattle.iscc.specs.Representation.{writtenAs};
 ghost use Rattle.composite.specs.Joined.{Listed, composedBytes, singleRefusal};
 use crate::code;
-use iscc::code::CodeAnswer;
+use crate::code::Coded;
 use iscc::refusal::Refusal;
 use iscc::written::Written;
 use units::reader::Reading;
@@ -18,20 +18,9 @@ fn join_list(bytes: &[u8], list: Summary, out: &mut [u8]) -> Written
     ensures answer { λ r. ⌜ r ≡ writtenAs (into (length (now (out .entry))) (composedBytes (now (bytes .entry)))) ⌝ }
     ensures area { λ r. ⌜ now (out .exit) ≡ areaAfter (into (length (now (out .entry))) (composedBytes (now (bytes .entry)))) (now (out .entry)) ⌝ }
 {
-    let read = code::of_list(bytes, list);
-    let answer = read.answer;
-    let joined = read.code;
-    match answer {
-        CodeAnswer::Refused(q, _) => Written::Refused(q),
-        CodeAnswer::Accepted => {
-            let length = joined.length;
-            if out.len() < length {
-                return Written::Refused(Refusal::AREA_TOO_SHORT);
-            }
-            let area = joined.bytes;
-            bytes::copy(&area[0..length], out);
-            Written::Length(length)
-        }
+    match code::write_list(bytes, list, out) {
+        Coded::Length(n) => Written::Length(n),
+        Coded::Refused(q, _) => Written::Refused(q),
     }
 }
 

@@ -7,13 +7,12 @@ ghost use lib.ListN.{length, take, drop, getD};
 ghost use Rattle.iscc.specs.Answer.{accept, areaAfter, into};
 ghost use Rattle.iscc.specs.Permitted.{setOf, unitCount};
 ghost use Rattle.iscc.specs.Item.{itemBytes};
-ghost use Rattle.iscc.specs.Representation.{writtenAs, unitSetAs, codeAs};
+ghost use Rattle.iscc.specs.Representation.{writtenAs, unitSetAs};
 ghost use Rattle.units.specs.Summary.{isSubtyped};
 ghost use Rattle.composite.specs.Bodies.{laid};
 ghost use Rattle.composite.specs.Code.{Sound, compositeBytes, unitOf, unitAt, splitInto};
 use crate::bodies;
 use crate::bodies::Composite;
-use iscc::code::Code;
 use iscc::main_type::MainType;
 use iscc::refusal::Refusal;
 use iscc::tables;
@@ -32,22 +31,30 @@ fn put_bodies(bodies: [[u8; 8]; 5], count: usize, out: &mut [u8])
     }
 }
 
-// The code of a composite: a header of two bytes, a nibble a number, and its bodies.
-pub(crate) fn code(c: Composite) -> Code
-    requires { ⌜ Sound c ⌝ }
-    ensures { λ r. ⌜ r ≡ codeAs (compositeBytes c) ⌝ }
+// A composite's own bytes, at the front of an area: a header of two bytes, a nibble a number, and its bodies.
+fn put_code(c: Composite, count: usize, out: &mut [u8])
+    requires { ⌜ Sound c × (count ≡ unitCount (setOf (c .«length_number»))) × (2 + count * 8 ≤ length (now out)) ⌝ }
+    ensures { λ _. ⌜ now (out .exit) ≡ areaAfter (accept (compositeBytes c)) (now (out .entry)) ⌝ }
 {
     let bodies = bodies::bodies_of(c);
-    let set = tables::unit_set(c.length_number);
-    let count = set.count;
-    let mut bytes = [0u8; 42];
-    bytes[0] = (MainType::ISCC.number() * 16 + c.subtype) as u8;
-    bytes[1] = c.length_number as u8;
-    put_bodies(bodies, count, &mut bytes[2..]);
-    Code {
-        bytes,
-        length: 2 + count * 8,
+    out[0] = (MainType::ISCC.number() * 16 + c.subtype) as u8;
+    out[1] = c.length_number as u8;
+    put_bodies(bodies, count, &mut out[2..]);
+}
+
+// Writes a composite as its own bytes, or 15.
+pub(crate) fn write(c: Composite, out: &mut [u8]) -> Written
+    requires { ⌜ Sound c ⌝ }
+    ensures answer { λ r. ⌜ r ≡ writtenAs (into (length (now (out .entry))) (accept (compositeBytes c))) ⌝ }
+    ensures area { λ _. ⌜ now (out .exit) ≡ areaAfter (into (length (now (out .entry))) (accept (compositeBytes c))) (now (out .entry)) ⌝ }
+{
+    let count = tables::body_count(c.length_number);
+    let size = 2 + count * 8;
+    if out.len() < size {
+        return Written::Refused(Refusal::AREA_TOO_SHORT);
     }
+    put_code(c, count, out);
+    Written::Length(size)
 }
 
 // SEMANTIC and CONTENT take the composite's subtype, the other units have 0.

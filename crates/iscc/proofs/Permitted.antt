@@ -1,5 +1,5 @@
 -- The laws of permitted headers, and of the eight sets.
-use Prim.Native.Nat.{ℕ, _≤_, _<_}
+use Prim.Native.Nat.{ℕ, _+_, _/_, _%_, _≤_, _<_}
 use mathlib.Core.Path.{_≡_, refl, sym, _∙_, ap}
 use mathlib.Core.Bool.{Bool, true, false, cond, not, _&&_, _||_}
 use mathlib.Core.List.{List, _++_}
@@ -185,6 +185,18 @@ subtype-fixed s u e h = eqb-true s (cond (u .meta) 6 5) (rw h at (sym (subtype-b
 pub set-past : (l : ℕ) → 8 ≤ l → setOf l ≡ setOf 0
 unfolding setOf sets
 set-past l h = List·getD-eq-default sets _ h
+
+-- the count of bodies by the numbers that a length number is the sum of
+countAgrees : ℕ → Bool
+countAgrees l = eqb (unitCount (setOf l)) (l / 4 + l / 2 % 2 + l % 2 + 2)
+
+count-computed : upTo 8 countAgrees ≡ true
+unfolding upTo countAgrees setOf sets
+count-computed = refl
+
+pub count-by-parts : (l : ℕ) → l < 8 → unitCount (setOf l) ≡ l / 4 + l / 2 % 2 + l % 2 + 2
+unfolding countAgrees
+count-by-parts l h = eqb-true (unitCount (setOf l)) (l / 4 + l / 2 % 2 + l % 2 + 2) (at 8 countAgrees count-computed l h)
 
 -- ---- the units in a set
 

@@ -1,8 +1,8 @@
 // The two constant tables of document 01: the base32 alphabet and the eight sets of units in a composite.
 ghost use mathlib.Core.Path.{_≡_};
-ghost use Prim.Native.Nat.{_≤_};
+ghost use Prim.Native.Nat.{_≤_, _<_};
 ghost use Rattle.iscc.specs.Base32.{base32};
-ghost use Rattle.iscc.specs.Permitted.{setOf};
+ghost use Rattle.iscc.specs.Permitted.{setOf, unitCount};
 ghost use Rattle.iscc.specs.Representation.{unitSetAs};
 use crate::main_type::MainType;
 
@@ -69,12 +69,29 @@ const SETS: [UnitSet; 8] = [
     },
 ];
 
+// The row of a length number; that of 0 where the table has none.
+fn row_of(length_number: usize) -> usize
+    ensures { λ r. ⌜ (r < 8) × (setOf r ≡ setOf «length_number») ⌝ }
+{
+    if length_number < 8 {
+        return length_number;
+    }
+    0
+}
+
 // The units of a composite by its length number; of a number that is none, those of 0.
 pub fn unit_set(length_number: usize) -> UnitSet
     ensures { λ r. ⌜ (r ≡ unitSetAs (setOf «length_number»)) × (r .count ≤ 5) ⌝ }
 {
-    if length_number < 8 {
-        return SETS[length_number];
-    }
-    SETS[0]
+    let row = row_of(length_number);
+    SETS[row]
+}
+
+// The table's count alone, computed: DATA and INSTANCE, and one for each number that the length number is the sum of. A table is
+// built anew where an entry of it is read, which costs more than the rest of a reader's work on a header.
+pub fn body_count(length_number: usize) -> usize
+    ensures { λ r. ⌜ (r ≡ unitCount (setOf «length_number»)) × (r ≤ 5) ⌝ }
+{
+    let row = row_of(length_number);
+    row / 4 + row / 2 % 2 + row % 2 + 2
 }

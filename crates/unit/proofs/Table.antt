@@ -6,11 +6,9 @@ use native.Mathlib.Omega.{arith}
 use native.Mathlib.Decide.{decLt}
 use lib.Dec.{eqb, leb, ltb}
 use borrow.Author.Tests.{lt-ltb, le-ltb, ne-eqb, eqb-true, eqb-false, lt-leb, not-true, not-false}
-use Rattle.iscc.specs.Permitted.{ISCC, number, typeOf, compositeSubtype, row, setOf, bodyBytes}
+use Rattle.iscc.specs.Permitted.{ISCC, number, typeOf, compositeSubtype, row, setOf, unitCount, bodyBytes}
 use Rattle.iscc.specs.Permitted as permitted
 use Rattle.iscc.specs.declared.main_type.MainType.{MainType}
-use Rattle.iscc.specs.declared.tables.UnitSet.{UnitSet}
-use Rattle.iscc.specs.Representation.{unitSetAs}
 use Rattle.iscc.proofs.Permitted.{number-small, type-number}
 use Rattle.unit.specs.Representation.{inRow, permitsAs}
 
@@ -92,9 +90,9 @@ module _ (m : MainType) (s v l : ℕ) where
 
 -- the bodies by number
 module _ (n s l : ℕ) {t : Bool} where
-  pub body-composite : (u : UnitSet) → t ≡ eqb n 5 → t ≡ true → u ≡ unitSetAs (setOf l) → u .count * 8 ≡ bodyBytes (typeOf n) s l
-  unfolding bodyBytes typeOf unitSetAs
-  body-composite u e h g = rw (is-yes n 5 e h, g)
+  pub body-composite : (k : ℕ) → t ≡ eqb n 5 → t ≡ true → k ≡ unitCount (setOf l) → k * 8 ≡ bodyBytes (typeOf n) s l
+  unfolding bodyBytes typeOf
+  body-composite k e h g = rw (is-yes n 5 e h, g)
 
   pub body-id : t ≡ eqb n 6 → t ≡ true → 8 + l ≡ bodyBytes (typeOf n) s l
   unfolding bodyBytes typeOf

@@ -76,8 +76,7 @@ pub(crate) fn body_bytes(main_type: MainType, subtype: u32, length_number: u32) 
 {
     let n = length_number as usize;
     if main_type.is(MainType::ISCC) {
-        let set = tables::unit_set(n);
-        return set.count * 8;
+        return tables::body_count(n) * 8;
     }
     if main_type.is(MainType::ID) {
         return 8 + n;

@@ -3,9 +3,10 @@ use Prim.Native.Nat.{ℕ}
 use mathlib.Core.Path.{_∙_, sym, ap}
 use mathlib.Core.List.{List}
 use native.Mathlib.Omega.{arith}
-use Rattle.iscc.specs.Answer.{Answer, areaAfter}
+use lib.ListN.{length}
+use Rattle.iscc.specs.Answer.{Answer, into, areaAfter}
 use Rattle.iscc.proofs.Digits.{below-all}
-use Rattle.composite.specs.Canonical.{codedAs, detailOf}
+use Rattle.composite.specs.Canonical.{codedInto, detailOf}
 use Rattle.composite.proofs.Joins.{listed-of, read-refused}
 use Rattle.composite.proofs.Whole.{two-at-least, canonical-more}
 use Rattle.composite.proofs.CodeValue.{unread-coded}
@@ -17,7 +18,7 @@ write-list-requires : tie.Need-write-list-requires
 write-list-requires c κs =
     let t = c .before in
     let r = t .before .before .before in
-    (listed-of _ (r .read .ensures .0) _ (r .read .ensures .1) (t .enum-told .given .1), search needs)
+    listed-of _ (r .read .ensures .0) _ (r .read .ensures .1) (t .enum-told .given .1)
 
 returns : tie.Need-returns
 returns c =
@@ -32,10 +33,10 @@ returns-2 c =
     let b = r .before .before in
     let s = b .before in
     let l = listed-of _ (r .read .ensures .0) _ (r .read .ensures .1) (t .enum-told .given .1) in
-    let k = two-at-least _ _ l (below-all 256 (s .args .bytes .now) (λ i h. omega (arith, b .shared-slice-known .given i))) (s .pre .1) in
+    let k = two-at-least _ _ l (below-all 256 (s .args .bytes .now) (λ i h. omega (arith, b .shared-slice-known .given i))) (s .pre) in
     let e = canonical-more _ _ l k in (
-      w .write-list .ensures .0 ∙ ap (codedAs (detailOf (s .args .bytes .now))) (sym e),
-      w .write-list .ensures .1 ∙ ap (λ (x : Answer (List ℕ)). areaAfter x (s .args .out .now)) (sym e),
+      w .write-list .ensures .0 ∙ ap (codedInto (length (s .args .out .now)) (detailOf (s .args .bytes .now))) (sym e),
+      w .write-list .ensures .1 ∙ ap (λ (x : Answer (List ℕ)). areaAfter (into (length (s .args .out .now)) x) (s .args .out .now)) (sym e),
     )
 
 pub write-items-spec : {M : Type 1} → statement M

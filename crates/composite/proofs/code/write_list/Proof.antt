@@ -1,45 +1,63 @@
--- `write_list` meets its contract: a refusal, or the code copied to the area.
-use mathlib.Core.Path.{refl}
+-- `write_list` meets its contract: a refusal, or what the writer of the composite tells.
+use mathlib.Core.Path.{_≡_, sym, _∙_, ap}
 use native.Mathlib.Omega.{arith}
+use Rattle.iscc.specs.Meaning.{Meaning}
+use Rattle.iscc.specs.Answer.{accept}
+use Rattle.iscc.specs.Item.{itemBytes, itemOf}
 use Rattle.iscc.proofs.Digits.{below-all}
+use Rattle.composite.specs.Bodies.{Makes}
+use Rattle.composite.specs.Code.{compositeBytes}
 use Rattle.composite.specs.Joined.{composedBytes}
 use Rattle.composite.specs.Canonical.{detailOf}
-use Rattle.composite.proofs.Whole.{composed-most}
-use Rattle.composite.proofs.CodeValue.{refused-coded, code-within, code-most, copy-coded}
+use Rattle.composite.proofs.Joins.{verdict-refuses, verdict-makes, makes-sound, makes-bytes}
+use Rattle.composite.proofs.CodeValue.{broken-coded, writer-coded, writer-refused}
 use borrow.Author.Needs.{needs}
 use Rattle.composite.proofs.code.write_list.Statement.{statement}
 use Rattle.composite.proofs.code.write_list.Tie as tie
 
-part-copy-end : tie.Need-part-copy-end
-part-copy-end c =
-    let t = c .before .before in
-    let o = t .before .before in
-    let s = o .before .before .before in
-    omega (arith, code-within (detailOf (s .args .bytes .now)) (composedBytes (s .args .bytes .now)) _ (o .of-list .ensures) (t .enum-told .given .1))
-
-copy-requires : tie.Need-copy-requires
-copy-requires c κs =
-    let t = c .before .before .before .before in
-    let o = t .before .before in
-    let b = o .before .before in
+-- what a list that passed every test makes
+made : (c : tie.After-enum-told) →
+    let a = c .before .before .before .before .before .args in
+    (m : Meaning) × Makes (a .bytes .now) (a .list) m × (composedBytes (a .bytes .now) ≡ accept (itemBytes (itemOf m)))
+made c =
+    let d = c .before .before in
+    let b = d .before .before in
     let s = b .before in
-    let m = composed-most _ _ (s .pre .0) (below-all 256 (s .args .bytes .now) (λ i h. omega (arith, b .shared-slice-known .given i))) in
-    omega (arith, code-most (detailOf (s .args .bytes .now)) (composedBytes (s .args .bytes .now)) _ (o .of-list .ensures) (t .enum-told .given .1) m, s .pre .1)
+    verdict-makes _ _ (s .pre) (d .decide .ensures) (below-all 256 (s .args .bytes .now) (λ i h. omega (arith, b .shared-slice-known .given i))) (c .enum-told .given .1)
+
+from-list-requires : tie.Need-from-list-requires
+from-list-requires c κs = let k = made c in (k .0, k .1)
+
+write-requires : tie.Need-write-requires
+write-requires c κs =
+    let f = c .before in
+    let k = made (f .before) in
+    makes-sound _ _ (k .0) (k .1) _ (f .from-list .ensures (k .0) (k .1))
 
 returns : tie.Need-returns
 returns c =
-    let a = c .before in
-    let o = a .before .before in
-    let s = o .before .before .before in
-    refused-coded (detailOf (s .args .bytes .now)) (composedBytes (s .args .bytes .now)) _ (o .of-list .ensures) (s .args .out .now) _ _ (a .answer .given .1)
+    let v = c .before in
+    let d = v .before .before in
+    let s = d .before .before .before in
+    broken-coded _ (s .args .out .now) _ (s .pre) _ _ (verdict-refuses _ _ (s .pre) (d .decide .ensures) _ _ (v .verdict .given .1))
+
+-- what is to be written
+composed : (c : tie.After-from-list) → composedBytes (c .before .before .before .before .before .before .args .bytes .now) ≡ accept (compositeBytes (c .from-list .result))
+composed c = let k = made (c .before) in k .2 ∙ ap accept (sym (makes-bytes _ _ (k .0) (k .1) _ (c .from-list .ensures (k .0) (k .1))))
 
 returns-2 : tie.Need-returns-2
 returns-2 c =
-    let w = c .before .before in
-    let t = w .before .before .before .before .before in
-    let o = t .before .before in
-    let s = o .before .before .before in
-    copy-coded (detailOf (s .args .bytes .now)) (composedBytes (s .args .bytes .now)) _ (o .of-list .ensures) (t .enum-told .given .1) (s .args .out .now) _ _ refl (w .copy .ensures .1)
+    let w = c .before .before .before .before .before in
+    let f = w .before .before in
+    let a = f .before .before .before .before .before .before .args in
+    writer-coded (detailOf (a .bytes .now)) _ (a .out .now) _ (composed f) _ _ (w .write .ensures .0, w .write .ensures .1) _ (c .before .n .given .1)
+
+returns-3 : tie.Need-returns-3
+returns-3 c =
+    let w = c .before .before .before .before .before in
+    let f = w .before .before in
+    let a = f .before .before .before .before .before .before .args in
+    writer-refused (detailOf (a .bytes .now)) _ (a .out .now) _ (composed f) _ _ (w .write .ensures .0, w .write .ensures .1) _ (c .before .q .given .1)
 
 pub write-list-spec : {M : Type 1} → statement M
 write-list-spec =
@@ -48,10 +66,12 @@ write-list-spec =
     (λ c κs. search needs)
     (λ c. search needs)
     (λ c. search needs)
+    from-list-requires
+    write-requires
     (λ c. search needs)
     (λ c. search needs)
-    part-copy-end
-    copy-requires
     returns
     (λ c. search needs)
-    returns-2)
+    returns-2
+    (λ c. search needs)
+    returns-3)
