@@ -13,8 +13,8 @@ use Rattle.iscc.specs.declared.code.CodeRead.{CodeRead}
 use Rattle.iscc.specs.declared.code.CodeAnswer.the-variants as coded
 use Rattle.iscc.specs.declared.written.Written.{Written}
 use Rattle.iscc.specs.declared.written.Written.the-variants as written
-use Rattle.door.specs.Payloads.{payloadAnswerAs}
-use Rattle.door.specs.declared.payload.PayloadAnswer.the-variants as payload
+use Rattle.payload.specs.Payloads.{payloadAnswerAs}
+use Rattle.payload.specs.declared.reader.PayloadAnswer.the-variants as payload
 
 -- the first n of these bytes are what was accepted
 abbrev pub Held : Answer (List ℕ) → List ℕ → ℕ → Type 0

@@ -6,7 +6,7 @@ use Rattle.iscc.specs.Alphabet.{encode}
 use Rattle.iscc.specs.Base32.{base32}
 use Rattle.iscc.specs.Doors.{scheme, payload}
 use Rattle.composite.specs.Canonical.{detailOf}
-use Rattle.door.specs.Payloads.{payloadDetail}
+use Rattle.payload.specs.Payloads.{payloadDetail}
 
 -- the text of a code's bytes
 abbrev pub textOfCode : List ℕ → List ℕ

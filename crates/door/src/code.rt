@@ -1,38 +1,25 @@
 // The code that a typed text holds, as the bytes of the one unit or composite that it means.
 ghost use mathlib.Core.Path.{_≡_};
-ghost use Prim.Native.Nat.{_≤_};
 ghost use lib.ListN.{length};
 ghost use Rattle.iscc.specs.Answer.{areaAfter};
 ghost use Rattle.iscc.specs.Doors.{codeBytes, readCode};
 ghost use Rattle.iscc.specs.Representation.{writtenAs, codeReadAs};
 ghost use Rattle.door.specs.Codes.{codeDetail};
-use crate::payload;
-use crate::payload::PayloadAnswer;
 use iscc::code::CodeAnswer;
 use iscc::code::CodeRead;
 use iscc::refusal::Refusal;
 use iscc::written::Written;
+use payload::reader::PayloadAnswer;
 
-// The code of a text that is not too long: 1, 3 to 14.
-fn read_typed(text: &[u8]) -> CodeRead
-    requires { ⌜ length (now text) ≤ 1024 ⌝ }
-    ensures { λ r. ⌜ r ≡ codeReadAs (codeDetail (now (text .entry))) (codeBytes (now (text .entry))) ⌝ }
-{
-    let mut bytes = [0u8; 50];
-    match payload::read(text, &mut bytes) {
-        PayloadAnswer::Length(n) => composite::code::read(&bytes[0..n]),
-        PayloadAnswer::Refused(q, detail) => composite::code::refused(q, detail),
-    }
-}
-
-// The code by value. Gives 2, 1, 3 to 14 in the order of the doors. Nothing is set up for a text that is too long.
+// The code by value. Gives 2, 1, 3 to 14 in the order of the doors.
 pub fn read(text: &[u8]) -> CodeRead
     ensures { λ r. ⌜ r ≡ codeReadAs (codeDetail (now (text .entry))) (codeBytes (now (text .entry))) ⌝ }
 {
-    if payload::LONGEST_TYPED < text.len() {
-        return composite::code::refused(Refusal::LONG_TEXT, 0);
+    let mut bytes = [0u8; 50];
+    match payload::reader::read(text, &mut bytes) {
+        PayloadAnswer::Length(n) => composite::code::read(&bytes[0..n]),
+        PayloadAnswer::Refused(q, detail) => composite::code::refused(q, detail),
     }
-    read_typed(text)
 }
 
 // Writes the code to the front of the area. Gives 15 where the area is below 42 bytes, whatever the text; then 2, 1, 3 to 14.

@@ -7,9 +7,9 @@ ghost use Rattle.iscc.specs.Answer.{accept, areaAfter, into};
 ghost use Rattle.iscc.specs.Doors.{scheme, writeText};
 ghost use Rattle.iscc.specs.Representation.{writtenAs};
 ghost use Rattle.door.specs.Codes.{textOfCode};
-use crate::scheme::SCHEME;
 use iscc::refusal::Refusal;
 use iscc::written::Written;
+use payload::scheme::SCHEME;
 use unit::reader::UnitRead;
 
 // The longest text that is written, in bytes: the scheme and the 68 characters of the longest code.
