@@ -33,7 +33,7 @@ use Rattle.composite.specs.declared.bodies.Composite.{Composite}
 use Rattle.composite.specs.Bodies.{Makes, compositeAs}
 use Rattle.composite.specs.Code.{Sound, compositeBytes}
 use Rattle.composite.specs.Joined.{Listed, composedBytes, singleRefusal}
-use Rattle.composite.proofs.Made.{permitted-parts}
+use Rattle.composite.proofs.FromSummary.{permitted-parts}
 use Rattle.composite.proofs.Bytes.{sound-of, code-of}
 
 -- ---- the composite that is written
@@ -43,7 +43,7 @@ module _ (bs : List ℕ) (l : Summary) (m : Meaning) (k : Makes bs l m) (c : Com
   is = k .items
 
   abbrev of : CompositeParts is m
-  of = compositeFrom-parts is m (k .made)
+  of = compositeFrom-parts is m (k .composes)
 
   pub makes-sound : Sound c
   makes-sound =
@@ -85,7 +85,7 @@ module _ (bs : List ℕ) (l : Summary) (i : Listed bs l) {v : Verdict} (ev : v �
   verdict-makes b e =
       let r = by-composite (verdictDetail (i .items)) (compositeFrom (i .items)) (sym e ∙ verdict-is) in (
         r .0,
-        record { items = i .items; summary = i .summary; made = r .1; permitted = compositeFrom-permitted (i .items) (r .0) (items-read bs (i .items) b (i .read) .permitted) (r .1) },
+        record { items = i .items; summary = i .summary; composes = r .1; permitted = compositeFrom-permitted (i .items) (r .0) (items-read bs (i .items) b (i .read) .permitted) (r .1) },
         composedBytes-is bs (i .items) (r .0) (i .read) (r .1),
       )
 

@@ -12,28 +12,28 @@ use Rattle.composite.specs.Bodies.{filledBodies, laid}
 -- ---- the elements of a part, written out
 
 abbrev pub elems : List ℕ → ℕ → ℕ → ℕ → List ℕ
-elems s at j zero = []
-elems s at j (suc k) = getD s (at + j) 0 ∷ elems s at (suc j) k
+elems s offset j zero = []
+elems s offset j (suc k) = getD s (offset + j) 0 ∷ elems s offset (suc j) k
 
-elems-from : (s : List ℕ) (at j k : ℕ) → at + j + k ≤ length s → elems s at j k ≡ take k (drop (at + j) s)
-elems-from s at j zero h = refl
-elems-from s at j (suc k) h =
-    let l : at + j < length s = omega arith in
-    rw (drop-cons s (at + j) 0 l)
-    (ap (λ (r : List ℕ). getD s (at + j) 0 ∷ r)
-    (elems-from s at (suc j) k (omega (arith, add-suc at j)) ∙ ap (λ (m : ℕ). take k (drop m s)) (add-suc at j)))
+elems-from : (s : List ℕ) (offset j k : ℕ) → offset + j + k ≤ length s → elems s offset j k ≡ take k (drop (offset + j) s)
+elems-from s offset j zero h = refl
+elems-from s offset j (suc k) h =
+    let l : offset + j < length s = omega arith in
+    rw (drop-cons s (offset + j) 0 l)
+    (ap (λ (r : List ℕ). getD s (offset + j) 0 ∷ r)
+    (elems-from s offset (suc j) k (omega (arith, add-suc offset j)) ∙ ap (λ (m : ℕ). take k (drop m s)) (add-suc offset j)))
 
-pub elems-part : (s : List ℕ) (at k : ℕ) → at + k ≤ length s → elems s at 0 k ≡ take k (drop at s)
-elems-part s at k h = elems-from s at 0 k (omega arith) ∙ ap (λ (m : ℕ). take k (drop m s)) (add-zero at)
+pub elems-part : (s : List ℕ) (offset k : ℕ) → offset + k ≤ length s → elems s offset 0 k ≡ take k (drop offset s)
+elems-part s offset k h = elems-from s offset 0 k (omega arith) ∙ ap (λ (m : ℕ). take k (drop m s)) (add-zero offset)
 
 -- a part of eight, put back
-pub put-back : (o row ys : List ℕ) (at : ℕ) → at + 8 ≤ length o → length row ≡ 8
-    → ys ≡ take (length row) row ++ drop (length row) (take (at + 8 - at) (drop at o))
-    → take at o ++ (ys ++ drop (at + 8 - at) (drop at o)) ≡ take at o ++ (row ++ drop (at + 8) o)
-put-back o row ys at h l e =
-    let k : at + 8 - at ≡ 8 = omega arith in
-    let y : ys ≡ row ++ [] = e ∙ ap₂ (λ (p q : List ℕ). p ++ q) (take-all (length row) row (omega arith)) (drop-of-length-le (take (at + 8 - at) (drop at o)) {i = length row} (simp (length-take, length-drop) (omega arith))) in
-    ap₂ (λ (p q : List ℕ). take at o ++ (p ++ q)) (y ∙ append-nil row) (ap (λ (m : ℕ). drop m (drop at o)) k ∙ drop-drop 8 at o)
+pub put-back : (o body ys : List ℕ) (offset : ℕ) → offset + 8 ≤ length o → length body ≡ 8
+    → ys ≡ take (length body) body ++ drop (length body) (take (offset + 8 - offset) (drop offset o))
+    → take offset o ++ (ys ++ drop (offset + 8 - offset) (drop offset o)) ≡ take offset o ++ (body ++ drop (offset + 8) o)
+put-back o body ys offset h l e =
+    let k : offset + 8 - offset ≡ 8 = omega arith in
+    let y : ys ≡ body ++ [] = e ∙ ap₂ (λ (p q : List ℕ). p ++ q) (take-all (length body) body (omega arith)) (drop-of-length-le (take (offset + 8 - offset) (drop offset o)) {i = length body} (simp (length-take, length-drop) (omega arith))) in
+    ap₂ (λ (p q : List ℕ). take offset o ++ (p ++ q)) (y ∙ append-nil body) (ap (λ (m : ℕ). drop m (drop offset o)) k ∙ drop-drop 8 offset o)
 
 -- ---- bodies, filled up with zeros
 
@@ -49,8 +49,8 @@ set-filled f zero (suc k) h = ap (λ (r : List (List ℕ)). f 0 ∷ r) (filled-n
 set-filled f (suc i) (suc k) h = ap (λ (r : List (List ℕ)). f 0 ∷ r) (set-filled (λ i. f (suc i)) i k (le-of-suc-le-suc h))
 
 -- one more is filled
-pub one-filled : (f : ℕ → List ℕ) (i k : ℕ) (out : List (List ℕ)) (row : List ℕ) → i < k → out ≡ filledBodies f i k → row ≡ f i → set out i row ≡ filledBodies f (i + 1) k
-one-filled f i k out row h eo er = rw (eo, er, add-one) (set-filled f i k h)
+pub one-filled : (f : ℕ → List ℕ) (i k : ℕ) (out : List (List ℕ)) (body : List ℕ) → i < k → out ≡ filledBodies f i k → body ≡ f i → set out i body ≡ filledBodies f (i + 1) k
+one-filled f i k out body h eo er = rw (eo, er, add-one) (set-filled f i k h)
 
 pub filled-at : (f : ℕ → List ℕ) (n k i : ℕ) → i < n → i < k → getD (filledBodies f n k) i [] ≡ f i
 unfolding filledBodies

@@ -38,7 +38,7 @@ use Rattle.composite.specs.Bodies.{parts, filledBodies, laid, compositeA
 use Rattle.composite.specs.Code.{Sound, unitOf, unitAt, splitInto}
 use Rattle.iscc.proofs.Parts.{rest-is}
 use Rattle.composite.proofs.Parts.{laid-length, laid-same, laid-flat, filled-at, filled-same}
-use Rattle.composite.proofs.Made.{unit-at}
+use Rattle.composite.proofs.FromSummary.{unit-at}
 use Rattle.composite.proofs.Bytes.{sound-of}
 
 -- ---- one unit of 64 bits
@@ -111,20 +111,20 @@ module _ (n s : ℕ) (r : Bool) (e : r ≡ eqb n 1) where
     own-none h = rw (← e, g, ← f, h)
 
 -- a unit is put at an offset of an area
-pub unit-put : (m : code.MainType) (s k : ℕ) (body out e : List ℕ) (at : ℕ) → k ≡ cond (isSubtyped (m .number)) s 0 → m .number < 5 → (isSubtyped (m .number) ≡ true → s ≤ 4) → length body ≡ 8
-    → at + 10 ≤ length out
-    → e ≡ areaAfter (writeUnit (headerWith m k 0 1) body (length (take (length out - at) (drop at out)))) (take (length out - at) (drop at out))
-    → take at out ++ (e ++ drop (length out - at) (drop at out)) ≡ take at out ++ (itemBytes (unitOf (m .number) s body) ++ drop (at + 10) out)
-unit-put m s k body out e at ek h f l g ee =
-    let d : List ℕ = drop at out in
+pub unit-put : (m : code.MainType) (s k : ℕ) (body out e : List ℕ) (offset : ℕ) → k ≡ cond (isSubtyped (m .number)) s 0 → m .number < 5 → (isSubtyped (m .number) ≡ true → s ≤ 4) → length body ≡ 8
+    → offset + 10 ≤ length out
+    → e ≡ areaAfter (writeUnit (headerWith m k 0 1) body (length (take (length out - offset) (drop offset out)))) (take (length out - offset) (drop offset out))
+    → take offset out ++ (e ++ drop (length out - offset) (drop offset out)) ≡ take offset out ++ (itemBytes (unitOf (m .number) s body) ++ drop (offset + 10) out)
+unit-put m s k body out e offset ek h f l g ee =
+    let d : List ℕ = drop offset out in
     let u : List ℕ = itemBytes (unitOf (m .number) s body) in
-    let n : length d ≡ length out - at = length-drop at out in
+    let n : length d ≡ length out - offset = length-drop offset out in
     let e′ : e ≡ u ++ drop 10 d =
-    ee ∙ ap (λ (x : List ℕ). areaAfter (writeUnit (headerWith m k 0 1) body (length x)) x) (rest-is out at)
+    ee ∙ ap (λ (x : List ℕ). areaAfter (writeUnit (headerWith m k 0 1) body (length x)) x) (rest-is out offset)
     ∙ ap (λ (x : ℕ). areaAfter (writeUnit (headerWith m x 0 1) body (length d)) d) ek
     ∙ unit-written m s body d h f l (omega arith) in
-    let z : drop (length out - at) d ≡ [] = drop-of-length-le d {i = length out - at} (omega arith) in
-    ap₂ (λ (x y : List ℕ). take at out ++ (x ++ y)) e′ z ∙ ap (λ (x : List ℕ). take at out ++ x) (append-nil (u ++ drop 10 d) ∙ ap (λ (x : List ℕ). u ++ x) (drop-drop 10 at out))
+    let z : drop (length out - offset) d ≡ [] = drop-of-length-le d {i = length out - offset} (omega arith) in
+    ap₂ (λ (x y : List ℕ). take offset out ++ (x ++ y)) e′ z ∙ ap (λ (x : List ℕ). take offset out ++ x) (append-nil (u ++ drop 10 d) ∙ ap (λ (x : List ℕ). u ++ x) (drop-drop 10 offset out))
 
 -- ---- the units of a sound composite
 
@@ -160,7 +160,7 @@ module _ (c : Composite) (ok : Sound c) where
   unfolding splitInto
   split-length = laid-length (λ i. itemBytes (unitAt c i)) 10 (unitCount set) unit-long
 
-  -- with the table's set and the filledBodies in the code's hands
+  -- with the table's set and the bodies in the code's hands
   module _ (u : UnitSet) (eu : u ≡ unitSetAs set) (rs : List (List ℕ)) (er : rs ≡ c .bodies) where
     count-of : u .count ≡ unitCount set
     unfolding unitSetAs
@@ -228,9 +228,9 @@ module _ (s v : ℕ) (u : Set) (bodies : List (List ℕ)) (p : Permitted (compos
       sym (items-flat us) ∙ sym (laid-flat (λ i. itemBytes (unitAt value i)) (map itemBytes us) bytes-is) ∙ ap (laid (λ i. itemBytes (unitAt value i))) n
 
 -- the bodies behind a composite's header
-rows-in : (s v : ℕ) (u : Set) (bs : List ℕ) → compositeAs (compositeOf s v u bs) ≡ parts (setLengthNumber u) s (filledBodies (λ i. take 8 (drop (i * 8) bs)) (unitCount u) 5)
+bodies-in : (s v : ℕ) (u : Set) (bs : List ℕ) → compositeAs (compositeOf s v u bs) ≡ parts (setLengthNumber u) s (filledBodies (λ i. take 8 (drop (i * 8) bs)) (unitCount u) 5)
 unfolding compositeAs compositeOf
-rows-in s v u bs = ap (parts (setLengthNumber u) s) (filled-same _ _ (unitCount u) 5 (λ i h. cut-at 8 (unitCount u) bs i h))
+bodies-in s v u bs = ap (parts (setLengthNumber u) s) (filled-same _ _ (unitCount u) 5 (λ i h. cut-at 8 (unitCount u) bs i h))
 
 -- ---- split
 
@@ -240,9 +240,9 @@ other-type s v l body =
     unit-or-composite (λ m. eqb (number m) 5 ≡ false → unitsOf (meaningAs m s v l body) ≡ refuse notPermitted)
     (λ m u _. rw (unit-means m s v l body u)) (λ e. absurd (false≢true (sym e)))
 
--- the composite of a header's numbers and its body, and the units that it is split into
-abbrev rowed : ℕ → ℕ → List ℕ → Composite
-rowed s l body = parts l s (filledBodies (λ i. take 8 (drop (i * 8) body)) (unitCount (setOf l)) 5)
+-- the composite of an item's numbers and its body, by value; and the units that it is split into
+abbrev itemValue : ℕ → ℕ → List ℕ → Composite
+itemValue s l body = parts l s (filledBodies (λ i. take 8 (drop (i * 8) body)) (unitCount (setOf l)) 5)
 
 module _ (s v l : ℕ) (body : List ℕ) (p : PermittedItem (record { mainType = ISCC; subtype = s; version = v; lengthNumber = l; body = body })) where
   abbrev item : Item
@@ -251,25 +251,25 @@ module _ (s v l : ℕ) (body : List ℕ) (p : PermittedItem (record { mainType =
   small-number : l ≤ 7
   small-number = small ISCC s v l (p .header) .lengthNumber
 
-  as-rows : compositeAs (compositeOf s v (setOf l) body) ≡ rowed s l body
-  as-rows =
-      rows-in s v (setOf l) body
+  as-value : compositeAs (compositeOf s v (setOf l) body) ≡ itemValue s l body
+  as-value =
+      bodies-in s v (setOf l) body
       ∙ ap (λ (n : ℕ). parts n s (filledBodies (λ i. take 8 (drop (i * 8) body)) (unitCount (setOf l)) 5)) (number-back l small-number)
 
   bodies-permitted : Permitted (compositeOf s v (setOf l) body)
   unfolding meaningAs
   bodies-permitted = meant-item item p
 
-  pub rowed-sound : Sound (rowed s l body)
+  pub value-sound : Sound (itemValue s l body)
   unfolding compositeOf
-  rowed-sound = subst Sound as-rows (sound-of s v (setOf l) _ bodies-permitted)
+  value-sound = subst Sound as-value (sound-of s v (setOf l) _ bodies-permitted)
 
   units-laid : (unitsOf (meaningOf item) >>= λ is. accept (itemsBytes is)) ≡ accept (splitInto (compositeAs (compositeOf s v (setOf l) body)))
   unfolding meaningAs compositeOf unitsOf
   units-laid = ap accept (split-laid s v (setOf l) _ bodies-permitted)
 
-  pub rowed-units : (unitsOf (meaningOf item) >>= λ is. accept (itemsBytes is)) ≡ accept (splitInto (rowed s l body))
-  rowed-units = units-laid ∙ ap (λ (c : Composite). accept (splitInto c)) as-rows
+  pub value-units : (unitsOf (meaningOf item) >>= λ is. accept (itemsBytes is)) ≡ accept (splitInto (itemValue s l body))
+  value-units = units-laid ∙ ap (λ (c : Composite). accept (splitInto c)) as-value
 
 pub split-unread : (bs : List ℕ) (q : Refusal) → readOne bs ≡ refuse q → splitBytes bs ≡ refuse q
 unfolding splitBytes
@@ -293,11 +293,11 @@ module _ (bs : List ℕ) (u : Unit) (w : OneIs bs u) where
     unfolding bodyBytes
     code-room = omega (arith, rw (type-is, w .lengthNumber) at (w .whole))
 
-    abbrev splitRows : Composite
-    splitRows = parts (u .«length_number») (u .subtype) (filledBodies (λ i. take 8 (drop (2 + i * 8) bs)) (unitCount (setOf (u .«length_number»))) 5)
+    abbrev splitValue : Composite
+    splitValue = parts (u .«length_number») (u .subtype) (filledBodies (λ i. take 8 (drop (2 + i * 8) bs)) (unitCount (setOf (u .«length_number»))) 5)
 
-    same-rows : rowed (u .subtype) (u .«length_number») (w .item .body) ≡ splitRows
-    same-rows =
+    same-value : itemValue (u .subtype) (u .«length_number») (w .item .body) ≡ splitValue
+    same-value =
         let e : w .item .body ≡ drop 2 bs = w .body ∙ ap (λ (k : ℕ). drop k bs) (w .start) in
         ap (parts (u .«length_number») (u .subtype))
         (filled-same _ _ (unitCount (setOf (u .«length_number»))) 5 (λ i h. ap (take 8) (ap (drop (i * 8)) e ∙ drop-drop (i * 8) 2 bs)))
@@ -312,12 +312,12 @@ module _ (bs : List ℕ) (u : Unit) (w : OneIs bs u) where
       permitted-is : PermittedItem whole
       permitted-is = subst PermittedItem whole-is (one-read bs (w .item) k (w .is) .0)
 
-      pub split-sound : (c : Composite) → c ≡ splitRows → Sound c
-      split-sound c e = subst⁻¹ Sound (e ∙ sym same-rows) (rowed-sound (u .subtype) (w .item .version) (u .«length_number») (w .item .body) permitted-is)
+      pub split-sound : (c : Composite) → c ≡ splitValue → Sound c
+      split-sound c e = subst⁻¹ Sound (e ∙ sym same-value) (value-sound (u .subtype) (w .item .version) (u .«length_number») (w .item .body) permitted-is)
 
-      pub split-whole : (c : Composite) → c ≡ splitRows → splitBytes bs ≡ accept (splitInto c)
+      pub split-whole : (c : Composite) → c ≡ splitValue → splitBytes bs ≡ accept (splitInto c)
       unfolding splitBytes
       split-whole c e =
           rw (w .is) (ap (λ (i : Item). unitsOf (meaningOf i) >>= λ is. accept (itemsBytes is)) whole-is)
-          ∙ rowed-units (u .subtype) (w .item .version) (u .«length_number») (w .item .body) permitted-is
-          ∙ ap (λ (x : Composite). accept (splitInto x)) (same-rows ∙ sym e)
+          ∙ value-units (u .subtype) (w .item .version) (u .«length_number») (w .item .body) permitted-is
+          ∙ ap (λ (x : Composite). accept (splitInto x)) (same-value ∙ sym e)

@@ -39,12 +39,12 @@ compositeAs (unit m s v body) = parts 0 0 []
 pub record Makes (bs : List ℕ) (l : Summary) (m : Meaning) : Type 0 where
   pub items : List Item
   pub summary : Summarizes bs items l
-  pub made : compositeFrom items ≡ accept m
+  pub composes : compositeFrom items ≡ accept m
   pub permitted : Permitted m
 
 -- the offset of the i-th unit's body
-abbrev pub offsetIn : List ℕ → List MainType → ℕ → ℕ
-offsetIn offsets units i = getD offsets (getD units i (record { number = 0 }) .number) 0
+abbrev pub bodyOffset : List ℕ → List MainType → ℕ → ℕ
+bodyOffset offsets units i = getD offsets (getD units i (record { number = 0 }) .number) 0
 
 -- the set of units that have a body
 abbrev pub setOfOffsets : List ℕ → Set

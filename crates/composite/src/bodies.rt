@@ -29,26 +29,26 @@ pub(crate) fn bodies_of(c: Composite) -> [[u8; 8]; 5]
 }
 
 // The eight bytes at an offset.
-pub(crate) fn eight_bytes(bytes: &[u8], at: usize) -> [u8; 8]
-    requires { ⌜ at + 8 ≤ length (now bytes) ⌝ }
-    ensures { λ r. ⌜ r ≡ take 8 (drop at (now (bytes .entry))) ⌝ }
+pub(crate) fn eight_bytes(bytes: &[u8], offset: usize) -> [u8; 8]
+    requires { ⌜ offset + 8 ≤ length (now bytes) ⌝ }
+    ensures { λ r. ⌜ r ≡ take 8 (drop offset (now (bytes .entry))) ⌝ }
 {
     [
-        bytes[at],
-        bytes[at + 1],
-        bytes[at + 2],
-        bytes[at + 3],
-        bytes[at + 4],
-        bytes[at + 5],
-        bytes[at + 6],
-        bytes[at + 7],
+        bytes[offset],
+        bytes[offset + 1],
+        bytes[offset + 2],
+        bytes[offset + 3],
+        bytes[offset + 4],
+        bytes[offset + 5],
+        bytes[offset + 6],
+        bytes[offset + 7],
     ]
 }
 
 // One body, at an offset of an area.
-pub(crate) fn put(body: [u8; 8], at: usize, out: &mut [u8])
-    requires { ⌜ at + 8 ≤ length (now out) ⌝ }
-    ensures { λ _. ⌜ now (out .exit) ≡ take at (now (out .entry)) ++ (body ++ drop (at + 8) (now (out .entry))) ⌝ }
+pub(crate) fn put(body: [u8; 8], offset: usize, out: &mut [u8])
+    requires { ⌜ offset + 8 ≤ length (now out) ⌝ }
+    ensures { λ _. ⌜ now (out .exit) ≡ take offset (now (out .entry)) ++ (body ++ drop (offset + 8) (now (out .entry))) ⌝ }
 {
-    bytes::copy(&body, &mut out[at..at + 8]);
+    bytes::copy(&body, &mut out[offset..offset + 8]);
 }

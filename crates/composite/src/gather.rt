@@ -7,7 +7,7 @@ ghost use lib.Dec.{eqb};
 ghost use Rattle.iscc.specs.Permitted.{weight, setLengthNumber, setOf, unitCount};
 ghost use Rattle.iscc.specs.Meaning.{Meaning};
 ghost use Rattle.units.specs.Summary.{anySubtyped};
-ghost use Rattle.composite.specs.Bodies.{filledBodies, parts, offsetIn, setOfOffsets, summarySubtype, Makes, compositeAs};
+ghost use Rattle.composite.specs.Bodies.{filledBodies, parts, bodyOffset, setOfOffsets, summarySubtype, Makes, compositeAs};
 use crate::bodies;
 use crate::bodies::Composite;
 use iscc::main_type::MainType;
@@ -52,8 +52,8 @@ fn subtype_of(list: Summary) -> u32
 
 // The bodies of a set's units, each from its offset.
 fn bodies_at(bytes: &[u8], offsets: [usize; 7], set: UnitSet) -> [[u8; 8]; 5]
-    requires { ⌜ (set .count ≤ 5) × ((i : ℕ) → i < set .count → (getD (set .units) i (record { number = 0 }) .number < 7) × (offsetIn offsets (set .units) i + 8 ≤ length (now bytes))) ⌝ }
-    ensures { λ r. ⌜ r ≡ filledBodies (λ i. take 8 (drop (offsetIn offsets (set .units) i) (now (bytes .entry)))) (set .count) 5 ⌝ }
+    requires { ⌜ (set .count ≤ 5) × ((i : ℕ) → i < set .count → (getD (set .units) i (record { number = 0 }) .number < 7) × (bodyOffset offsets (set .units) i + 8 ≤ length (now bytes))) ⌝ }
+    ensures { λ r. ⌜ r ≡ filledBodies (λ i. take 8 (drop (bodyOffset offsets (set .units) i) (now (bytes .entry)))) (set .count) 5 ⌝ }
 {
     let count = set.count;
     let units = set.units;
@@ -61,8 +61,8 @@ fn bodies_at(bytes: &[u8], offsets: [usize; 7], set: UnitSet) -> [[u8; 8]; 5]
     let mut i: usize = 0;
     while i < count {
         let number = units[i].number() as usize;
-        let at = offsets[number];
-        found[i] = bodies::eight_bytes(bytes, at);
+        let offset = offsets[number];
+        found[i] = bodies::eight_bytes(bytes, offset);
         i += 1;
     }
     found

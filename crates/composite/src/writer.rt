@@ -71,12 +71,12 @@ fn unit_subtype(main_type: MainType, subtype: u32) -> u32
 }
 
 // A unit of 64 bits, at an offset of an area.
-fn put_unit(main_type: MainType, subtype: u32, body: [u8; 8], at: usize, out: &mut [u8])
-    requires { ⌜ («main_type» .number < 5) × (isSubtyped («main_type» .number) ≡ true → subtype ≤ 4) × (at + 10 ≤ length (now out)) ⌝ }
-    ensures { λ _. ⌜ now (out .exit) ≡ take at (now (out .entry)) ++ (itemBytes (unitOf («main_type» .number) subtype body) ++ drop (at + 10) (now (out .entry))) ⌝ }
+fn put_unit(main_type: MainType, subtype: u32, body: [u8; 8], offset: usize, out: &mut [u8])
+    requires { ⌜ («main_type» .number < 5) × (isSubtyped («main_type» .number) ≡ true → subtype ≤ 4) × (offset + 10 ≤ length (now out)) ⌝ }
+    ensures { λ _. ⌜ now (out .exit) ≡ take offset (now (out .entry)) ++ (itemBytes (unitOf («main_type» .number) subtype body) ++ drop (offset + 10) (now (out .entry))) ⌝ }
 {
     let own = unit_subtype(main_type, subtype);
-    unit::writer::write(main_type, own, 0, 1, &body, &mut out[at..]);
+    unit::writer::write(main_type, own, 0, 1, &body, &mut out[offset..]);
 }
 
 // A composite's units end to end, at the front of an area.

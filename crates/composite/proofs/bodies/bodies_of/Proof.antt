@@ -29,7 +29,7 @@ use denote.Exit.{yes}
 use Rattle.composite.specs.declared.bodies.Composite.{Composite}
 use Rattle.composite.proofs.bodies.Composite as T
 use Rattle.composite.proofs.bodies.Composite.Laws as T′
-use Rattle.composite.proofs.Rows.{Rows5, rows-vals, rows-make, rows-lawful, into, into-id}
+use Rattle.composite.proofs.BodyArrays.{Bodies5, bodies-vals, bodies-make, bodies-lawful, fieldList, field-same}
 use Rattle.composite.proofs.bodies.bodies_of.Key.{name as #bodies-of}
 use Rattle.composite.proofs.bodies.bodies_of as bodies-of
 use Rattle.composite.proofs.bodies.bodies_of.Statement as stated
@@ -43,28 +43,28 @@ module _ {M : Type 1} (𝓤 : URA M) (H : Heap 𝓤) (A : Atoms 𝓤) (W : Given
   mach = LL.val T.the-type T′.the-laws h
 
   -- the field's machine value
-  abbrev rows : Val
-  rows = only (rows-vals (into (h .bodies)))
+  abbrev bodiesValue : Val
+  bodiesValue = only (bodies-vals (fieldList (h .bodies)))
 
   abbrev Post : Val → SProp 𝓤
   Post = walkOf 𝓤 H A bodies-of.ended stayed (bodies-of.clauses 𝓤 H A mem run) .post ((tt, tt, tt, (h, tt), (mach ∷ [], tt)), tt)
 
   -- what the struct's relation says of the field
-  held : Is T.the-row h (mach ∷ []) → Is Rows5 (into (h .bodies)) (rows ∷ [])
+  held : Is T.the-row h (mach ∷ []) → Is Bodies5 (fieldList (h .bodies)) (bodiesValue ∷ [])
   held g = LL.owed T.the-type T′.the-laws h _ g .1 .1 .0
 
-  exits : Is T.the-row h (mach ∷ []) → ent 𝓤 (sem 𝓤 H A (T.the-row .own h (mach ∷ []))) (Post rows)
+  exits : Is T.the-row h (mach ∷ []) → ent 𝓤 (sem 𝓤 H A (T.the-row .own h (mach ∷ []))) (Post bodiesValue)
   exits g =
       qed W (‵ (T.the-row .own h (mach ∷ [])) ∷ []) ∵
-      suffices ! _ (ends-at 𝓤 H A bodies-of.ended stayed (bodies-of.clauses 𝓤 H A mem run) W ((tt, tt, tt, (h, tt), (mach ∷ [], tt)), tt) rows (h .bodies) (tt, tt) (tt, tt)) $ says ! refl $
-      nothing ! $ move ! (1 ∷ 0 ∷ []) $ fjoin ! $ owned ! Rows5 (Is Rows5) (rows-make 𝓤 H A W) (h .bodies) _ (subst (λ (xs : List (List ℕ)). Is Rows5 xs (rows ∷ [])) (into-id (h .bodies)) (held g)) $ move ! (1 ∷ 0 ∷ []) $ nothing ! $ done !
+      suffices ! _ (ends-at 𝓤 H A bodies-of.ended stayed (bodies-of.clauses 𝓤 H A mem run) W ((tt, tt, tt, (h, tt), (mach ∷ [], tt)), tt) bodiesValue (h .bodies) (tt, tt) (tt, tt)) $ says ! refl $
+      nothing ! $ move ! (1 ∷ 0 ∷ []) $ fjoin ! $ owned ! Bodies5 (Is Bodies5) (bodies-make 𝓤 H A W) (h .bodies) _ (subst (λ (xs : List (List ℕ)). Is Bodies5 xs (bodiesValue ∷ [])) (field-same (h .bodies)) (held g)) $ move ! (1 ∷ 0 ∷ []) $ nothing ! $ done !
 
   module _ (C : Calls 𝓤 H) (Λ : Loops 𝓤 H) where
     walk : Is T.the-row h (mach ∷ []) → Holds (hasTy T′.mir mach) × WT mach → ent 𝓤 (onEntry 𝓤 H A bodies-of.signature tt tt (h, tt) (mach ∷ [], tt)) (WpFn 𝓤 H C Λ code.function (mach ∷ []) Post)
     walk g wt =
         qed W (‵ ftrue ∷ ‵ (owns (T.the-row ∷ []) (h, tt) (mach ∷ [], tt)) ∷ []) ∵ enter ! C Λ code.function (mach ∷ []) _ $
         alloc1 ! (λ l₀. alloc1 ! (λ l₁. alloc0 ! $ params1 ! $ pass1 ! (init ! 0 refl wt) $ pass0 ! $
-        assigns ! (of-opd ! (load ! (from ! (fld ! refl (stop !))) (look-in ! 0 (sub ! 2 refl (whole !))))) (from ! (stop !)) (init ! 2 refl (rows-lawful 𝓤 H A W .typed (into (h .bodies)) (rows ∷ []) (held g) .0)) $
+        assigns ! (of-opd ! (load ! (from ! (fld ! refl (stop !))) (look-in ! 0 (sub ! 2 refl (whole !))))) (from ! (stop !)) (init ! 2 refl (bodies-lawful 𝓤 H A W .typed (fieldList (h .bodies)) (bodiesValue ∷ []) (held g) .0)) $
         returns ! (look ! 2 refl) $ forget ! 0 refl $ forget ! 2 refl $ move ! (2 ∷ 3 ∷ []) $ free1 ! $ free1 ! $ free0 ! $ keep ! (1 ∷ []) $ fsplit ! $ keep ! (0 ∷ []) $ by ! (exits g)))
 
 module _ {M : Type 1} (𝓤 : URA M) (H : Heap 𝓤) (A : Atoms 𝓤) (W : Given 𝓤 H A) (mem : Memory → SProp 𝓤) (run : Routine → Fun 𝓤) where

@@ -9,7 +9,7 @@ use Rattle.composite.proofs.bodies.eight_bytes.Tie as tie
 returns : tie.Need-returns
 returns c =
     let a = c .before .before .before .before .before .before .before .before .args in
-    simp (sym (elems-part (a .bytes .now) (a .at) 8 (search needs)), add-zero)
+    simp (sym (elems-part (a .bytes .now) (a .offset) 8 (search needs)), add-zero)
 
 pub eight-bytes-spec : {M : Type 1} → statement M
 eight-bytes-spec =

@@ -7,7 +7,7 @@ use Rattle.composite.proofs.bodies.put.Tie as tie
 returns : tie.Need-returns
 returns c =
     let r = c .before .before .before .before .before .before .args in
-    put-back (r .out .now) (r .t1) (c .before .before .copy .last .1 .0) (r .at) (search needs) (search needs) (c .before .before .copy .ensures .1)
+    put-back (r .out .now) (r .t1) (c .before .before .copy .last .1 .0) (r .offset) (search needs) (search needs) (c .before .before .copy .ensures .1)
 
 pub put-spec : {M : Type 1} → statement M
 put-spec =

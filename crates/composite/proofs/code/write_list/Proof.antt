@@ -16,22 +16,22 @@ use Rattle.composite.proofs.code.write_list.Statement.{statement}
 use Rattle.composite.proofs.code.write_list.Tie as tie
 
 -- what a list that passed every test makes
-made : (c : tie.After-enum-told) →
+makes-composite : (c : tie.After-enum-told) →
     let a = c .before .before .before .before .before .args in
     (m : Meaning) × Makes (a .bytes .now) (a .list) m × (composedBytes (a .bytes .now) ≡ accept (itemBytes (itemOf m)))
-made c =
+makes-composite c =
     let d = c .before .before in
     let b = d .before .before in
     let s = b .before in
     verdict-makes _ _ (s .pre) (d .decide .ensures) (below-all 256 (s .args .bytes .now) (λ i h. omega (arith, b .shared-slice-known .given i))) (c .enum-told .given .1)
 
 from-list-requires : tie.Need-from-list-requires
-from-list-requires c κs = let k = made c in (k .0, k .1)
+from-list-requires c κs = let k = makes-composite c in (k .0, k .1)
 
 write-requires : tie.Need-write-requires
 write-requires c κs =
     let f = c .before in
-    let k = made (f .before) in
+    let k = makes-composite (f .before) in
     makes-sound _ _ (k .0) (k .1) _ (f .from-list .ensures (k .0) (k .1))
 
 returns : tie.Need-returns
@@ -43,7 +43,7 @@ returns c =
 
 -- what is to be written
 composed : (c : tie.After-from-list) → composedBytes (c .before .before .before .before .before .before .args .bytes .now) ≡ accept (compositeBytes (c .from-list .result))
-composed c = let k = made (c .before) in k .2 ∙ ap accept (sym (makes-bytes _ _ (k .0) (k .1) _ (c .from-list .ensures (k .0) (k .1))))
+composed c = let k = makes-composite (c .before) in k .2 ∙ ap accept (sym (makes-bytes _ _ (k .0) (k .1) _ (c .from-list .ensures (k .0) (k .1))))
 
 returns-2 : tie.Need-returns-2
 returns-2 c =

@@ -6,13 +6,13 @@ use mathlib.Core.List.{List}
 use native.Mathlib.Omega.{arith}
 use lib.ListN.{length, take, drop, getD}
 use Rattle.iscc.specs.declared.main_type.MainType.{MainType}
-use Rattle.composite.specs.Bodies.{filledBodies, offsetIn}
+use Rattle.composite.specs.Bodies.{filledBodies, bodyOffset}
 use Rattle.composite.proofs.Parts.{one-filled}
 use Rattle.composite.proofs.gather.bodies_at.Statement.{statement}
 use Rattle.composite.proofs.gather.bodies_at.Tie as tie
 
 abbrev body : List ℕ → List ℕ → List MainType → ℕ → List ℕ
-body bytes offsets units j = take 8 (drop (offsetIn offsets units j) bytes)
+body bytes offsets units j = take 8 (drop (bodyOffset offsets units j) bytes)
 
 abbrev Inv-loop : tie.InvT-loop
 Inv-loop bytes offsets count units found₀ i₀ out i = (i ≤ count) × (out ≡ filledBodies (body bytes offsets units) i 5)
@@ -24,8 +24,8 @@ loop-holds : tie.Need-loop-holds Inv-loop μ-loop
 unfolding filledBodies
 loop-holds c = (omega arith, refl)
 
-array-read-at : tie.Need-array-read-at Inv-loop μ-loop
-array-read-at c = omega (arith, c .number .ensures, c .before .before .before .before .before .before .pre .1 (c .before .before .before .loop .i) (omega arith) .0)
+array-read-offset : tie.Need-array-read-offset Inv-loop μ-loop
+array-read-offset c = omega (arith, c .number .ensures, c .before .before .before .before .before .before .pre .1 (c .before .before .before .loop .i) (omega arith) .0)
 
 eight-bytes-requires : tie.Need-eight-bytes-requires Inv-loop μ-loop
 eight-bytes-requires c κs =
@@ -60,7 +60,7 @@ bodies-at-spec =
     (λ c κs. search needs)
     (λ c. search needs)
     (λ c. search needs)
-    array-read-at
+    array-read-offset
     eight-bytes-requires
     (λ c. search needs)
     (λ c. search needs)

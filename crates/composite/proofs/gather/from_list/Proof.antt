@@ -4,7 +4,7 @@ use mathlib.Core.Path.{_∙_, ap}
 use Rattle.iscc.specs.Permitted.{setOf, setLengthNumber}
 use Rattle.iscc.specs.Representation.{unitSetAs}
 use Rattle.composite.specs.Bodies.{parts, setOfOffsets}
-use Rattle.composite.proofs.Made.{units-there, list-made}
+use Rattle.composite.proofs.FromSummary.{units-there, summary-composite}
 use borrow.Author.Needs.{needs}
 use Rattle.composite.proofs.gather.from_list.Statement.{statement}
 use Rattle.composite.proofs.gather.from_list.Tie as tie
@@ -20,7 +20,7 @@ returns c = λ m k.
     c .from-parts .ensures
     ∙ ap (λ (x : ℕ). parts x (c .before .subtype-of .result) (c .before .before .bodies-at .result)) n
     ∙ ap (λ (x : ℕ). parts (setLengthNumber (setOfOffsets (c .before .before .before .before .before .before .before .args .list .offsets))) x (c .before .before .bodies-at .result)) (c .before .subtype-of .ensures)
-    ∙ list-made _ _ m k _ (c .before .before .before .unit-set .ensures .0 ∙ ap (λ (x : ℕ). unitSetAs (setOf x)) n) _ (c .before .before .bodies-at .ensures)
+    ∙ summary-composite _ _ m k _ (c .before .before .before .unit-set .ensures .0 ∙ ap (λ (x : ℕ). unitSetAs (setOf x)) n) _ (c .before .before .bodies-at .ensures)
 
 pub from-list-spec : {M : Type 1} → statement M
 from-list-spec =

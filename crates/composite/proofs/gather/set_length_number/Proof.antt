@@ -1,5 +1,5 @@
 -- `set_length_number` meets its contract.
-use Rattle.composite.proofs.Made.{set-number-is}
+use Rattle.composite.proofs.FromSummary.{set-number-is}
 use borrow.Author.Needs.{needs}
 use Rattle.composite.proofs.gather.set_length_number.Statement.{statement}
 use Rattle.composite.proofs.gather.set_length_number.Tie as tie

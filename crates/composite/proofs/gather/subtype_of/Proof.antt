@@ -1,5 +1,5 @@
 -- `subtype_of` meets its contract.
-use Rattle.composite.proofs.Made.{subtype-shared, subtype-5, subtype-6}
+use Rattle.composite.proofs.FromSummary.{subtype-shared, subtype-5, subtype-6}
 use borrow.Author.Needs.{needs}
 use Rattle.composite.proofs.gather.subtype_of.Statement.{statement}
 use Rattle.composite.proofs.gather.subtype_of.Tie as tie

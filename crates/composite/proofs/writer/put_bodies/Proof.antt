@@ -9,11 +9,11 @@ use Rattle.composite.proofs.Parts.{Laid, none-laid, more-laid, all-laid
 use Rattle.composite.proofs.writer.put_bodies.Statement.{statement}
 use Rattle.composite.proofs.writer.put_bodies.Tie as tie
 
-abbrev row : List (List ℕ) → ℕ → List ℕ
-row bodies j = getD bodies j []
+abbrev body : List (List ℕ) → ℕ → List ℕ
+body bodies j = getD bodies j []
 
 abbrev Inv-loop : tie.InvT-loop
-Inv-loop count out₀ bodies i₀ out i = (i ≤ count) × Laid (row bodies) 8 out₀ out i
+Inv-loop count out₀ bodies i₀ out i = (i ≤ count) × Laid (body bodies) 8 out₀ out i
 
 abbrev μ-loop : tie.MeasureT-loop
 μ-loop count out₀ bodies i₀ out i = count - i
@@ -30,12 +30,12 @@ loop-again c =
     let s = c .before .before .before .before .before .before .before .before in
     let call = c .before .before .put in
     let e : length (call .last .1 .1 .0) ≡ length (l .out) = search needs in
-    (omega arith, more-laid (row (s .args .t1)) 8 (s .args .out .now) (l .out) (l .i) (l .inv .1) (call .last .1 .1 .0) (s .pre .2 (l .i) (omega arith)) e (call .ensures))
+    (omega arith, more-laid (body (s .args .t1)) 8 (s .args .out .now) (l .out) (l .i) (l .inv .1) (call .last .1 .1 .0) (s .pre .2 (l .i) (omega arith)) e (call .ensures))
 
 returns : tie.Need-returns Inv-loop μ-loop
 returns c =
     let s = c .before .before .before in
-    all-laid (row (s .args .t1)) 8 (s .args .out .now) _ _ (c .before .loop .inv .1) (s .args .count) (omega arith)
+    all-laid (body (s .args .t1)) 8 (s .args .out .now) _ _ (c .before .loop .inv .1) (s .args .count) (omega arith)
 
 pub put-bodies-spec : {M : Type 1} → statement M
 put-bodies-spec =

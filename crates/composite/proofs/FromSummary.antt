@@ -1,7 +1,7 @@
 -- The composite that a list makes, from the numbers of its summary.
 use Prim.Native.Nat.{ℕ, _+_, _≤_, _<_}
 use mathlib.Core.Path.{_≡_, refl, sym, _∙_, ap, subst, subst⁻¹}
-use mathlib.Core.Bool.{Bool, true, false, cond, not, _||_, false≢true}
+use mathlib.Core.Bool.{Bool, true, false, cond, not, _||_, false≢true, Bool·not-not}
 use mathlib.Core.Option.{Option, none, some}
 use mathlib.Core.List.{List, [], _∷_, _++_, map}
 use native.Mathlib.Omega.{arith}
@@ -27,7 +27,7 @@ use Rattle.units.specs.declared.summary.Summary.{Summary}
 use Rattle.units.specs.Summary.{BodyAt, firstSubtype, anySubtyped}
 use Rattle.units.proofs.Snoc.{subtyped}
 use Rattle.units.proofs.Added.{offset-tells, any-is}
-use Rattle.composite.specs.Bodies.{parts, filledBodies, compositeAs, Makes, offsetIn, setOfOffsets, summarySubtype}
+use Rattle.composite.specs.Bodies.{parts, filledBodies, compositeAs, Makes, bodyOffset, setOfOffsets, summarySubtype}
 use Rattle.composite.proofs.Parts.{filled-same}
 
 pub count-is : (u : UnitSet) (n : ℕ) → u ≡ unitSetAs (setOf n) → u .count ≡ unitCount (setOf n)
@@ -67,9 +67,9 @@ subtype-of is e =
 -- ---- the bodies
 
 -- a body of eight bytes that is there stands at its offset
-body-found : (bs : List ℕ) (o : Option (List ℕ)) (at : ℕ) → isIn o ≡ true → length (bytesIn o) ≡ 8 → BodyAt bs o at → (at + 8 ≤ length bs) × (take 8 (drop at bs) ≡ bytesIn o)
-body-found bs none at h e p = absurd (false≢true h)
-body-found bs (some body) at h e p = (omega (arith, p .1), ap (λ (k : ℕ). take k (drop at bs)) (sym e) ∙ p .2)
+body-found : (bs : List ℕ) (o : Option (List ℕ)) (offset : ℕ) → isIn o ≡ true → length (bytesIn o) ≡ 8 → BodyAt bs o offset → (offset + 8 ≤ length bs) × (take 8 (drop offset bs) ≡ bytesIn o)
+body-found bs none offset h e p = absurd (false≢true h)
+body-found bs (some body) offset h e p = (omega (arith, p .1), ap (λ (k : ℕ). take k (drop offset bs)) (sym e) ∙ p .2)
 
 -- the table's units are the set's
 pub unit-at : (u : Set) (i : ℕ) → i < unitCount u → getD (unitSetAs u .units) i (record { number = 0 }) ≡ mainTypeAs (getD (unitTypes u) i ID)
@@ -82,13 +82,9 @@ unit-at u i h =
 
 -- a unit's body is there
 abbrev There : List ℕ → List ℕ → MainType → Type 0
-There bs pl m = (m .number < 7) × (getD pl (m .number) 0 + 8 ≤ length bs)
+There bs offsets m = (m .number < 7) × (getD offsets (m .number) 0 + 8 ≤ length bs)
 
 -- ---- from the summary
-
-not-not : (b : Bool) → not (not b) ≡ b
-not-not true = refl
-not-not false = refl
 
 subtype-by : (a b c d : Bool) (x y : ℕ) → a ≡ b → x ≡ y → c ≡ d → cond a x (cond c 6 5) ≡ cond b y (cond d 6 5)
 subtype-by a b c d x y p q r = rw (p, q, r)
@@ -119,7 +115,7 @@ module _ (bs : List ℕ) (l : Summary) (m : Meaning) (k : Makes bs l m) where
   is = k .items
 
   abbrev of : CompositeParts is m
-  of = compositeFrom-parts is m (k .made)
+  of = compositeFrom-parts is m (k .composes)
 
   abbrev set : Set
   set = setIn is
@@ -131,7 +127,7 @@ module _ (bs : List ℕ) (l : Summary) (m : Meaning) (k : Makes bs l m) where
   permitted-parts = subst Permitted (sym (of .meaning)) (k .permitted)
 
   seen : (t : permitted.MainType) → not (eqb (getD (l .offsets) (number t) 0) 0) ≡ has t is
-  seen t = ap not (offset-tells bs (bodyIn t is) (getD (l .offsets) (number t) 0) (k .summary .offsets t)) ∙ not-not (has t is)
+  seen t = ap not (offset-tells bs (bodyIn t is) (getD (l .offsets) (number t) 0) (k .summary .offsets t)) ∙ Bool·not-not (has t is)
 
   set-at : setOfOffsets (l .offsets) ≡ set
   set-at = rw (seen META, seen SEMANTIC, seen CONTENT)
@@ -158,12 +154,12 @@ module _ (bs : List ℕ) (l : Summary) (m : Meaning) (k : Makes bs l m) where
         let w = body-found bs (bodyIn type is) (getD (l .offsets) (number type) 0) (type-in .1) (ap length (sym b) ∙ z) (k .summary .offsets type) in
         (w .0, w .1 ∙ sym b)
 
-  pub subtype-made : summarySubtype l ≡ subtypeOf is
+  pub summary-subtype : summarySubtype l ≡ subtypeOf is
   unfolding summarySubtype
-  subtype-made =
+  summary-subtype =
       subtype-by _ _ _ _ _ _ (any-is bs is l (k .summary)) (k .summary .subtype) (seen META) ∙ sym (subtype-of is (of .shared))
 
-  -- what `rows_of` asks, and what it makes
+  -- what `bodies_at` asks, and what it makes
   module _ (u : UnitSet) (e : u ≡ unitSetAs (setOf (setLengthNumber (setOfOffsets (l .offsets))))) where
     set-is : u ≡ unitSetAs set
     set-is = e ∙ units-are
@@ -180,11 +176,11 @@ module _ (bs : List ℕ) (l : Summary) (m : Meaning) (k : Makes bs l m) where
         let g : i < unitCount set = omega (arith, count-there) in
         subst⁻¹ (There bs (l .offsets)) (unit-there i g) (omega (arith, type-in i g .0), body-at i g .0)
 
-    pub list-made : (r : List (List ℕ)) → r ≡ filledBodies (λ i. take 8 (drop (offsetIn (l .offsets) (u .units) i) bs)) (u .count) 5
+    pub summary-composite : (r : List (List ℕ)) → r ≡ filledBodies (λ i. take 8 (drop (bodyOffset (l .offsets) (u .units) i) bs)) (u .count) 5
         → parts (setLengthNumber (setOfOffsets (l .offsets))) (summarySubtype l) r ≡ compositeAs m
     unfolding compositeAs
-    list-made r q =
+    summary-composite r q =
         let w : r ≡ filledBodies (λ i. getD bodies i []) (unitCount set) 5 =
-        q ∙ ap (λ (n : ℕ). filledBodies (λ i. take 8 (drop (offsetIn (l .offsets) (u .units) i) bs)) n 5) count-there
+        q ∙ ap (λ (n : ℕ). filledBodies (λ i. take 8 (drop (bodyOffset (l .offsets) (u .units) i) bs)) n 5) count-there
         ∙ filled-same _ _ (unitCount set) 5 (λ i h. ap (λ (x : MainType). take 8 (drop (getD (l .offsets) (x .number) 0) bs)) (unit-there i h) ∙ body-at i h .1) in
-        ap (λ (n : ℕ). parts n (summarySubtype l) r) (ap setLengthNumber set-at) ∙ rw (subtype-made, w) (ap compositeAs (of .meaning))
+        ap (λ (n : ℕ). parts n (summarySubtype l) r) (ap setLengthNumber set-at) ∙ rw (summary-subtype, w) (ap compositeAs (of .meaning))
