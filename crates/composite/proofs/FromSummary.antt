@@ -27,7 +27,8 @@ use Rattle.units.specs.declared.summary.Summary.{Summary}
 use Rattle.units.specs.Summary.{BodyAt, firstSubtype, anySubtyped}
 use Rattle.units.proofs.Snoc.{subtyped}
 use Rattle.units.proofs.Added.{offset-tells, any-is}
-use Rattle.composite.specs.Bodies.{parts, filledBodies, compositeAs, Makes, bodyOffset, setOfOffsets, summarySubtype}
+use Rattle.composite.specs.Bodies.{parts, filledBodies, compositeAs, Makes, typeAt, bodyOffset, setOfOffsets, summarySubtype}
+use Rattle.composite.specs.Code.{InComposite}
 use Rattle.composite.proofs.Parts.{filled-same}
 
 pub count-is : (u : UnitSet) (n : ℕ) → u ≡ unitSetAs (setOf n) → u .count ≡ unitCount (setOf n)
@@ -72,7 +73,7 @@ body-found bs none offset h e p = absurd (false≢true h)
 body-found bs (some body) offset h e p = (omega (arith, p .1), ap (λ (k : ℕ). take k (drop offset bs)) (sym e) ∙ p .2)
 
 -- the table's units are the set's
-pub unit-at : (u : Set) (i : ℕ) → i < unitCount u → getD (unitSetAs u .units) i (record { number = 0 }) ≡ mainTypeAs (getD (unitTypes u) i ID)
+pub unit-at : (u : Set) (i : ℕ) → i < unitCount u → typeAt (unitSetAs u .units) i ≡ mainTypeAs (getD (unitTypes u) i ID)
 unfolding unitSetAs
 unit-at u i h =
     let n : length (map mainTypeAs (unitTypes u)) ≡ unitCount u = length-map (unitTypes u) mainTypeAs ∙ types-count u in
@@ -135,17 +136,20 @@ module _ (bs : List ℕ) (l : Summary) (m : Meaning) (k : Makes bs l m) where
   units-are : unitSetAs (setOf (setLengthNumber (setOfOffsets (l .offsets)))) ≡ unitSetAs set
   units-are = ap (λ (s : Set). unitSetAs (setOf (setLengthNumber s))) set-at ∙ ap unitSetAs (set-back set)
 
-  in-list : All (λ t. (number t < 5) × (has t is ≡ true)) (unitTypes set)
+  abbrev InList : permitted.MainType → Type 0
+  InList t = InComposite (number t) × (has t is ≡ true)
+
+  in-list : All InList (unitTypes set)
   in-list =
-      types-all (λ t. (number t < 5) × (has t is ≡ true)) set (λ h. (lit< tt, h)) (λ h. (lit< tt, h)) (λ h. (lit< tt, h)) (lit< tt, of .dataIn) (lit< tt, of .instanceIn)
+      types-all InList set (λ h. (lit< tt, h)) (λ h. (lit< tt, h)) (λ h. (lit< tt, h)) (lit< tt, of .dataIn) (lit< tt, of .instanceIn)
 
   -- the i-th unit's body stands at the offset of its main type
   module _ (i : ℕ) (h : i < unitCount set) where
     abbrev type : permitted.MainType
     type = getD (unitTypes set) i ID
 
-    pub type-in : (number type < 5) × (has type is ≡ true)
-    type-in = all-at (λ t. (number t < 5) × (has t is ≡ true)) (unitTypes set) i ID in-list (omega (arith, types-count set))
+    pub type-in : InList type
+    type-in = all-at InList (unitTypes set) i ID in-list (omega (arith, types-count set))
 
     pub body-at : (getD (l .offsets) (number type) 0 + 8 ≤ length bs) × (take 8 (drop (getD (l .offsets) (number type) 0) bs) ≡ getD bodies i [])
     body-at =
@@ -168,10 +172,10 @@ module _ (bs : List ℕ) (l : Summary) (m : Meaning) (k : Makes bs l m) where
     unfolding unitSetAs
     count-there = ap (λ (x : UnitSet). x .count) set-is
 
-    unit-there : (i : ℕ) (h : i < unitCount set) → getD (u .units) i (record { number = 0 }) ≡ mainTypeAs (type i h)
-    unit-there i h = ap (λ (x : UnitSet). getD (x .units) i (record { number = 0 })) set-is ∙ unit-at set i h
+    unit-there : (i : ℕ) (h : i < unitCount set) → typeAt (u .units) i ≡ mainTypeAs (type i h)
+    unit-there i h = ap (λ (x : UnitSet). typeAt (x .units) i) set-is ∙ unit-at set i h
 
-    pub units-there : (i : ℕ) → i < u .count → There bs (l .offsets) (getD (u .units) i (record { number = 0 }))
+    pub units-there : (i : ℕ) → i < u .count → There bs (l .offsets) (typeAt (u .units) i)
     units-there i h =
         let g : i < unitCount set = omega (arith, count-there) in
         subst⁻¹ (There bs (l .offsets)) (unit-there i g) (omega (arith, type-in i g .0), body-at i g .0)

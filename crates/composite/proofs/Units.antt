@@ -12,7 +12,7 @@ use Rattle.iscc.specs.Refusals.{Refusal, notPermitted}
 use Rattle.iscc.specs.Answer.{Answer, accept, refuse, _>>=_, areaAfter}
 use Rattle.iscc.specs.Digits.{Below}
 use Rattle.iscc.specs.Header.{headerBytes}
-use Rattle.iscc.specs.Permitted.{MainType, ISCC, ID, number, typeOf, mainTypeOf, isUnit, Set, setOf, setLengthNumber, unitTypes, unitCount, compositeSubtype, row, permits, bodyBytes}
+use Rattle.iscc.specs.Permitted.{MainType, SEMANTIC, CONTENT, ISCC, ID, number, typeOf, mainTypeOf, isUnit, Set, setOf, setLengthNumber, unitTypes, unitCount, compositeSubtype, row, permits, bodyBytes}
 use Rattle.iscc.specs.Meaning.{composite, Permitted}
 use Rattle.iscc.specs.Item.{Item, itemBytes, readOne, unitBytes, writeUnit, compositeOf, meaningAs, meaningOf}
 use Rattle.iscc.specs.Lists.{All}
@@ -34,8 +34,8 @@ use Rattle.unit.specs.declared.reader.Unit.{Unit}
 use Rattle.unit.proofs.ExactlyOne.{OneIs}
 use Rattle.unit.proofs.Table.{seven}
 use Rattle.composite.specs.declared.bodies.Composite.{Composite}
-use Rattle.composite.specs.Bodies.{parts, filledBodies, laid, compositeAs}
-use Rattle.composite.specs.Code.{Sound, unitOf, unitAt, splitInto}
+use Rattle.composite.specs.Bodies.{parts, filledBodies, laid, compositeAs, typeAt}
+use Rattle.composite.specs.Code.{Sound, InComposite, unitOf, unitAt, splitInto}
 use Rattle.iscc.proofs.Parts.{rest-is}
 use Rattle.composite.proofs.Parts.{laid-length, laid-same, laid-flat, filled-at, filled-same}
 use Rattle.composite.proofs.FromSummary.{unit-at}
@@ -49,10 +49,10 @@ pub record UnitRow (n s : ℕ) : Type 0 where
   pub permitted : permits (typeOf n) (cond (isSubtyped n) s 0) 0 1 ≡ true
   pub eight : bodyBytes (typeOf n) (cond (isSubtyped n) s 0) 1 ≡ 8
 
-unit-row : (s n : ℕ) → n < 7 → n < 5 → (isSubtyped n ≡ true → s ≤ 4) → UnitRow n s
+unit-row : (s n : ℕ) → n < 7 → InComposite n → (isSubtyped n ≡ true → s ≤ 4) → UnitRow n s
 unfolding typeOf row bodyBytes
 unit-row s =
-    seven (λ n. n < 5 → (isSubtyped n ≡ true → s ≤ 4) → UnitRow n s)
+    seven (λ n. InComposite n → (isSubtyped n ≡ true → s ≤ 4) → UnitRow n s)
     (λ h f. record { single = refl; permitted = refl; eight = refl })
     (λ h f. record { single = refl; permitted = rw (le-leb s 4 (f refl)); eight = refl })
     (λ h f. record { single = refl; permitted = rw (le-leb s 4 (f refl)); eight = refl })
@@ -61,10 +61,10 @@ unit-row s =
     (λ h f. absurd (omega arith))
     (λ h f. absurd (omega arith))
 
-pub unit-there : (s n : ℕ) → n < 5 → (isSubtyped n ≡ true → s ≤ 4) → UnitRow n s
+pub unit-there : (s n : ℕ) → InComposite n → (isSubtyped n ≡ true → s ≤ 4) → UnitRow n s
 unit-there s n h f = unit-row s n (omega arith) h f
 
-module _ (m : code.MainType) (s : ℕ) (body d : List ℕ) (h : m .number < 5) (f : isSubtyped (m .number) ≡ true → s ≤ 4) (l : length body ≡ 8) where
+module _ (m : code.MainType) (s : ℕ) (body d : List ℕ) (h : InComposite (m .number)) (f : isSubtyped (m .number) ≡ true → s ≤ 4) (l : length body ≡ 8) where
   abbrev own : ℕ
   own = cond (isSubtyped (m .number)) s 0
 
@@ -99,11 +99,11 @@ module _ (m : code.MainType) (s : ℕ) (body d : List ℕ) (h : m .number < 5) (
       ap (λ (r : Answer (List ℕ)). areaAfter r d) w ∙ ap (λ (k : ℕ). itemBytes (unitOf (m .number) s body) ++ drop k d) unit-length
 
 -- what `unit_subtype` returns
-module _ (n s : ℕ) (r : Bool) (e : r ≡ eqb n 1) where
+module _ (n s : ℕ) (r : Bool) (e : r ≡ eqb n (number SEMANTIC)) where
   pub own-first : r ≡ true → s ≡ cond (isSubtyped n) s 0
   own-first h = rw (← e, h)
 
-  module _ (q : Bool) (f : q ≡ eqb n 2) (g : r ≡ false) where
+  module _ (q : Bool) (f : q ≡ eqb n (number CONTENT)) (g : r ≡ false) where
     pub own-second : q ≡ true → s ≡ cond (isSubtyped n) s 0
     own-second h = rw (← e, g, ← f, h)
 
@@ -111,7 +111,7 @@ module _ (n s : ℕ) (r : Bool) (e : r ≡ eqb n 1) where
     own-none h = rw (← e, g, ← f, h)
 
 -- a unit is put at an offset of an area
-pub unit-put : (m : code.MainType) (s k : ℕ) (body out e : List ℕ) (offset : ℕ) → k ≡ cond (isSubtyped (m .number)) s 0 → m .number < 5 → (isSubtyped (m .number) ≡ true → s ≤ 4) → length body ≡ 8
+pub unit-put : (m : code.MainType) (s k : ℕ) (body out e : List ℕ) (offset : ℕ) → k ≡ cond (isSubtyped (m .number)) s 0 → InComposite (m .number) → (isSubtyped (m .number) ≡ true → s ≤ 4) → length body ≡ 8
     → offset + 10 ≤ length out
     → e ≡ areaAfter (writeUnit (headerWith m k 0 1) body (length (take (length out - offset) (drop offset out)))) (take (length out - offset) (drop offset out))
     → take offset out ++ (e ++ drop (length out - offset) (drop offset out)) ≡ take offset out ++ (itemBytes (unitOf (m .number) s body) ++ drop (offset + 10) out)
@@ -128,8 +128,12 @@ unit-put m s k body out e offset ek h f l g ee =
 
 -- ---- the units of a sound composite
 
+-- the bytes of the i-th, by a set's main types, the composite's subtype and its bodies
+abbrev pub unitIn : List code.MainType → ℕ → List (List ℕ) → ℕ → List ℕ
+unitIn units s bodies i = itemBytes (unitOf (typeAt units i .number) s (getD bodies i []))
+
 abbrev Ok : ℕ → code.MainType → Type 0
-Ok s m = (m .number < 5) × (isSubtyped (m .number) ≡ true → s ≤ 4)
+Ok s m = InComposite (m .number) × (isSubtyped (m .number) ≡ true → s ≤ 4)
 
 no : (s : ℕ) → false ≡ true → s ≤ 4
 no s e = absurd (false≢true e)
@@ -143,7 +147,7 @@ module _ (c : Composite) (ok : Sound c) where
   abbrev set : Set
   set = setOf (c .«length_number»)
 
-  unit-ok : (i : ℕ) → i < unitCount set → Ok (c .subtype) (getD (unitSetAs set .units) i (record { number = 0 }))
+  unit-ok : (i : ℕ) → i < unitCount set → Ok (c .subtype) (typeAt (unitSetAs set .units) i)
   unit-ok i h =
       subst⁻¹ (Ok (c .subtype)) (unit-at set i h)
       (all-at (λ t. Ok (c .subtype) (mainTypeAs t)) (unitTypes set) i ID
@@ -154,7 +158,7 @@ module _ (c : Composite) (ok : Sound c) where
   unit-long i h =
       let m : unitCount set ≤ 5 = count-most set in
       let k = unit-ok i h in
-      unit-length (getD (unitSetAs set .units) i (record { number = 0 })) (c .subtype) (getD (c .bodies) i []) [] (k .0) (k .1) (ok .bodies i (omega arith))
+      unit-length (typeAt (unitSetAs set .units) i) (c .subtype) (getD (c .bodies) i []) [] (k .0) (k .1) (ok .bodies i (omega arith))
 
   pub split-length : length (splitInto c) ≡ unitCount set * 10
   unfolding splitInto
@@ -166,19 +170,19 @@ module _ (c : Composite) (ok : Sound c) where
     unfolding unitSetAs
     count-of = ap (λ (x : UnitSet). x .count) eu
 
-    pub code-ok : (i : ℕ) → i < u .count → Ok (c .subtype) (getD (u .units) i (record { number = 0 }))
-    code-ok i h = subst⁻¹ (λ (x : UnitSet). Ok (c .subtype) (getD (x .units) i (record { number = 0 }))) eu (unit-ok i (omega (arith, count-of)))
+    pub code-ok : (i : ℕ) → i < u .count → Ok (c .subtype) (typeAt (u .units) i)
+    code-ok i h = subst⁻¹ (λ (x : UnitSet). Ok (c .subtype) (typeAt (x .units) i)) eu (unit-ok i (omega (arith, count-of)))
 
-    pub same-unit : (i : ℕ) → itemBytes (unitOf (getD (u .units) i (record { number = 0 }) .number) (c .subtype) (getD rs i [])) ≡ itemBytes (unitAt c i)
+    pub same-unit : (i : ℕ) → unitIn (u .units) (c .subtype) rs i ≡ itemBytes (unitAt c i)
     unfolding unitAt
     same-unit i =
-        ap (λ (x : UnitSet). itemBytes (unitOf (getD (x .units) i (record { number = 0 }) .number) (c .subtype) (getD rs i []))) eu
-        ∙ ap (λ (x : List (List ℕ)). itemBytes (unitOf (getD (unitSetAs set .units) i (record { number = 0 }) .number) (c .subtype) (getD x i []))) er
+        ap (λ (x : UnitSet). unitIn (x .units) (c .subtype) rs i) eu
+        ∙ ap (λ (x : List (List ℕ)). unitIn (unitSetAs set .units) (c .subtype) x i) er
 
-    pub code-long : (i : ℕ) → i < u .count → length (itemBytes (unitOf (getD (u .units) i (record { number = 0 }) .number) (c .subtype) (getD rs i []))) ≡ 10
+    pub code-long : (i : ℕ) → i < u .count → length (unitIn (u .units) (c .subtype) rs i) ≡ 10
     code-long i h = ap length (same-unit i) ∙ unit-long i (omega (arith, count-of))
 
-    pub code-units : (d area : List ℕ) → area ≡ laid (λ i. itemBytes (unitOf (getD (u .units) i (record { number = 0 }) .number) (c .subtype) (getD rs i []))) (u .count) ++ drop (u .count * 10) d
+    pub code-units : (d area : List ℕ) → area ≡ laid (unitIn (u .units) (c .subtype) rs) (u .count) ++ drop (u .count * 10) d
         → area ≡ laid (λ i. itemBytes (unitAt c i)) (u .count) ++ drop (u .count * 10) d
     code-units d area e = e ∙ ap (λ (x : List ℕ). x ++ drop (u .count * 10) d) (laid-same _ _ same-unit (u .count))
 
@@ -208,7 +212,7 @@ module _ (s v : ℕ) (u : Set) (bodies : List (List ℕ)) (p : Permitted (compos
   unit-is : (i : ℕ) → i < unitCount u → unitAt (compositeAs (composite s v u bodies)) i ≡ getD us i (unit64 ID 0 [])
   unfolding unitAt compositeAs
   unit-is i h =
-      let n : getD (unitSetAs (setOf (setLengthNumber u)) .units) i (record { number = 0 }) ≡ mainTypeAs (getD (unitTypes u) i ID) = rw (set-back u) (unit-at u i h) in
+      let n : typeAt (unitSetAs (setOf (setLengthNumber u)) .units) i ≡ mainTypeAs (getD (unitTypes u) i ID) = rw (set-back u) (unit-at u i h) in
       let r : getD (filledBodies (λ j. getD bodies j []) (unitCount u) 5) i [] ≡ getD bodies i [] = filled-at (λ j. getD bodies j []) (unitCount u) 5 i h (omega (arith, count-most u)) in
       let t : typeOf (number (getD (unitTypes u) i ID)) ≡ getD (unitTypes u) i ID = type-number (getD (unitTypes u) i ID) in
       rw (n, r, t) (sym (zip-at (unitWith s) (unitTypes u) bodies i ID [] _ (omega (arith, types-count u)) (omega (arith, p .count))))
@@ -234,10 +238,10 @@ bodies-in s v u bs = ap (parts (setLengthNumber u) s) (filled-same _ _ (unitCoun
 
 -- ---- split
 
-other-type : (s v l : ℕ) (body : List ℕ) (m : MainType) → eqb (number m) 5 ≡ false → unitsOf (meaningAs m s v l body) ≡ refuse notPermitted
+other-type : (s v l : ℕ) (body : List ℕ) (m : MainType) → eqb (number m) (number ISCC) ≡ false → unitsOf (meaningAs m s v l body) ≡ refuse notPermitted
 unfolding unitsOf
 other-type s v l body =
-    unit-or-composite (λ m. eqb (number m) 5 ≡ false → unitsOf (meaningAs m s v l body) ≡ refuse notPermitted)
+    unit-or-composite (λ m. eqb (number m) (number ISCC) ≡ false → unitsOf (meaningAs m s v l body) ≡ refuse notPermitted)
     (λ m u _. rw (unit-means m s v l body u)) (λ e. absurd (false≢true (sym e)))
 
 -- the composite of an item's numbers and its body, by value; and the units that it is split into
@@ -279,15 +283,15 @@ as-composite : (i : Item) (s l : ℕ) → i .mainType ≡ ISCC → i .subtype �
 as-composite i s l a b c = rw (← a, ← b, ← c)
 
 module _ (bs : List ℕ) (u : Unit) (w : OneIs bs u) where
-  pub split-other : {t : Bool} → t ≡ eqb (u .«main_type» .number) 5 → t ≡ false → splitBytes bs ≡ refuse notPermitted
+  pub split-other : {t : Bool} → t ≡ eqb (u .«main_type» .number) (number ISCC) → t ≡ false → splitBytes bs ≡ refuse notPermitted
   unfolding splitBytes
   split-other e f =
       let i : Item = w .item in
-      rw (w .is) (rw (other-type (i .subtype) (i .version) (i .lengthNumber) (i .body) (i .mainType) (ap (λ (n : ℕ). eqb n 5) (w .mainType) ∙ sym e ∙ f)))
+      rw (w .is) (rw (other-type (i .subtype) (i .version) (i .lengthNumber) (i .body) (i .mainType) (ap (λ (n : ℕ). eqb n (number ISCC)) (w .mainType) ∙ sym e ∙ f)))
 
-  module _ (five : u .«main_type» .number ≡ 5) where
+  module _ (composed : u .«main_type» .number ≡ number ISCC) where
     type-is : w .item .mainType ≡ ISCC
-    type-is = sameType-eq (w .item .mainType) ISCC (eq-eqb (number (w .item .mainType)) 5 (w .mainType ∙ five))
+    type-is = sameType-eq (w .item .mainType) ISCC (eq-eqb (number (w .item .mainType)) (number ISCC) (w .mainType ∙ composed))
 
     pub code-room : 2 + unitCount (setOf (u .«length_number»)) * 8 ≤ length bs
     unfolding bodyBytes

@@ -9,6 +9,7 @@ use Rattle.iscc.specs.Permitted.{META, SEMANTIC, CONTENT, Set, setLengthNumber,
 use Rattle.iscc.specs.Meaning.{Meaning, unit, composite, Permitted}
 use Rattle.iscc.specs.Item.{Item}
 use Rattle.iscc.specs.Items.{compositeFrom}
+use Rattle.iscc.specs.Representation.{mainTypeAs}
 use Rattle.iscc.specs.declared.main_type.MainType.{MainType}
 use Rattle.units.specs.declared.summary.Summary.{Summary}
 use Rattle.units.specs.Summary.{Summarizes, hasOffset, anySubtyped}
@@ -42,9 +43,13 @@ pub record Makes (bs : List ℕ) (l : Summary) (m : Meaning) : Type 0 where
   pub composes : compositeFrom items ≡ accept m
   pub permitted : Permitted m
 
+-- the i-th main type of a set's units; META past their end
+abbrev pub typeAt : List MainType → ℕ → MainType
+typeAt units i = getD units i (mainTypeAs META)
+
 -- the offset of the i-th unit's body
 abbrev pub bodyOffset : List ℕ → List MainType → ℕ → ℕ
-bodyOffset offsets units i = getD offsets (getD units i (record { number = 0 }) .number) 0
+bodyOffset offsets units i = getD offsets (typeAt units i .number) 0
 
 -- the set of units that have a body
 abbrev pub setOfOffsets : List ℕ → Set

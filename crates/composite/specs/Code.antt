@@ -12,7 +12,7 @@ use Rattle.iscc.specs.Items.{unit64}
 use Rattle.iscc.specs.Representation.{unitSetAs}
 use Rattle.units.specs.Summary.{isSubtyped}
 use Rattle.composite.specs.declared.bodies.Composite.{Composite}
-use Rattle.composite.specs.Bodies.{laid}
+use Rattle.composite.specs.Bodies.{laid, typeAt}
 
 -- one of the eight sets, a subtype that the rules allow for it, and bodies of eight bytes
 pub record Sound (c : Composite) : Type 0 where
@@ -26,13 +26,17 @@ compositeHeader c = record { mainType = number ISCC; subtype = c .subtype; versi
 unfoldable pub compositeBytes : Composite → List ℕ
 compositeBytes c = headerBytes (compositeHeader c) ++ laid (λ i. getD (c .bodies) i []) (unitCount (setOf (c .«length_number»)))
 
+-- the numbers of the main types whose units a composite has: those before ISCC
+abbrev pub InComposite : ℕ → Type 0
+InComposite n = n < number ISCC
+
 -- a unit of 64 bits: SEMANTIC and CONTENT take the composite's subtype, and the others 0
 abbrev pub unitOf : ℕ → ℕ → List ℕ → Item
 unitOf n s body = unit64 (typeOf n) (cond (isSubtyped n) s 0) body
 
 -- the i-th unit of a composite
 unfoldable pub unitAt : Composite → ℕ → Item
-unitAt c i = unitOf (getD (unitSetAs (setOf (c .«length_number»)) .units) i (record { number = 0 }) .number) (c .subtype) (getD (c .bodies) i [])
+unitAt c i = unitOf (typeAt (unitSetAs (setOf (c .«length_number»)) .units) i .number) (c .subtype) (getD (c .bodies) i [])
 
 unfoldable pub splitInto : Composite → List ℕ
 splitInto c = laid (λ i. itemBytes (unitAt c i)) (unitCount (setOf (c .«length_number»)))

@@ -1,13 +1,12 @@
 // The composite of a list of units, and that of its own bytes.
 ghost use mathlib.Core.Path.{_≡_};
-ghost use mathlib.Core.Bool.{cond, not};
+ghost use mathlib.Core.Bool.{not};
 ghost use Prim.Native.Nat.{ℕ, _+_, _*_, _≤_, _<_};
-ghost use lib.ListN.{length, take, drop, getD};
+ghost use lib.ListN.{length, take, drop};
 ghost use lib.Dec.{eqb};
 ghost use Rattle.iscc.specs.Permitted.{weight, setLengthNumber, setOf, unitCount};
 ghost use Rattle.iscc.specs.Meaning.{Meaning};
-ghost use Rattle.units.specs.Summary.{anySubtyped};
-ghost use Rattle.composite.specs.Bodies.{filledBodies, parts, bodyOffset, setOfOffsets, summarySubtype, Makes, compositeAs};
+ghost use Rattle.composite.specs.Bodies.{filledBodies, parts, typeAt, bodyOffset, setOfOffsets, summarySubtype, Makes, compositeAs};
 use crate::bodies;
 use crate::bodies::Composite;
 use iscc::main_type::MainType;
@@ -52,7 +51,7 @@ fn subtype_of(list: Summary) -> u32
 
 // The bodies of a set's units, each from its offset.
 fn bodies_at(bytes: &[u8], offsets: [usize; 7], set: UnitSet) -> [[u8; 8]; 5]
-    requires { ⌜ (set .count ≤ 5) × ((i : ℕ) → i < set .count → (getD (set .units) i (record { number = 0 }) .number < 7) × (bodyOffset offsets (set .units) i + 8 ≤ length (now bytes))) ⌝ }
+    requires { ⌜ (set .count ≤ 5) × ((i : ℕ) → i < set .count → (typeAt (set .units) i .number < 7) × (bodyOffset offsets (set .units) i + 8 ≤ length (now bytes))) ⌝ }
     ensures { λ r. ⌜ r ≡ filledBodies (λ i. take 8 (drop (bodyOffset offsets (set .units) i) (now (bytes .entry)))) (set .count) 5 ⌝ }
 {
     let count = set.count;

@@ -1,7 +1,7 @@
 // Writes a composite: as its own bytes, or as its units end to end.
 ghost use mathlib.Core.Path.{_≡_};
 ghost use mathlib.Core.Bool.{true, cond};
-ghost use mathlib.Core.List.{List, [], _++_};
+ghost use mathlib.Core.List.{[], _++_};
 ghost use Prim.Native.Nat.{ℕ, _+_, _*_, _≤_, _<_};
 ghost use lib.ListN.{length, take, drop, getD};
 ghost use Rattle.iscc.specs.Answer.{accept, areaAfter, into};
@@ -10,7 +10,7 @@ ghost use Rattle.iscc.specs.Item.{itemBytes};
 ghost use Rattle.iscc.specs.Representation.{writtenAs, unitSetAs};
 ghost use Rattle.units.specs.Summary.{isSubtyped};
 ghost use Rattle.composite.specs.Bodies.{laid};
-ghost use Rattle.composite.specs.Code.{Sound, compositeBytes, unitOf, unitAt, splitInto};
+ghost use Rattle.composite.specs.Code.{Sound, compositeBytes, InComposite, unitOf, unitAt, splitInto};
 use crate::bodies;
 use crate::bodies::Composite;
 use iscc::main_type::MainType;
@@ -72,7 +72,7 @@ fn unit_subtype(main_type: MainType, subtype: u32) -> u32
 
 // A unit of 64 bits, at an offset of an area.
 fn put_unit(main_type: MainType, subtype: u32, body: [u8; 8], offset: usize, out: &mut [u8])
-    requires { ⌜ («main_type» .number < 5) × (isSubtyped («main_type» .number) ≡ true → subtype ≤ 4) × (offset + 10 ≤ length (now out)) ⌝ }
+    requires { ⌜ InComposite («main_type» .number) × (isSubtyped («main_type» .number) ≡ true → subtype ≤ 4) × (offset + 10 ≤ length (now out)) ⌝ }
     ensures { λ _. ⌜ now (out .exit) ≡ take offset (now (out .entry)) ++ (itemBytes (unitOf («main_type» .number) subtype body) ++ drop (offset + 10) (now (out .entry))) ⌝ }
 {
     let own = unit_subtype(main_type, subtype);

@@ -18,13 +18,13 @@ returns c =
 from-code-requires : tie.Need-from-code-requires
 from-code-requires c κs =
     let i = c .before .before in
-    code-room _ _ (one-is _ _ (i .before .before .before .pre)) (eqb-true _ 5 (sym (i .is .ensures) ∙ not-false _ (c .before .if1 .left)))
+    code-room _ _ (one-is _ _ (i .before .before .before .pre)) (eqb-true _ _ (sym (i .is .ensures) ∙ not-false _ (c .before .if1 .left)))
 
 write-units-requires : tie.Need-write-units-requires
 write-units-requires c κs =
     let t = c .before .before .before in
     let b = t .before .before .before in
-    split-sound _ _ (one-is _ _ (b .before .pre)) (eqb-true _ 5 (sym (t .before .is .ensures) ∙ not-false _ (t .if1 .left)))
+    split-sound _ _ (one-is _ _ (b .before .pre)) (eqb-true _ _ (sym (t .before .is .ensures) ∙ not-false _ (t .if1 .left)))
     (below-all 256 (b .before .args .bytes .now) (λ i h. omega (arith, b .shared-slice-known .given i))) _ (c .before .from-code .ensures)
 
 returns-2 : tie.Need-returns-2
@@ -35,7 +35,7 @@ returns-2 c =
     let b = t .before .before .before in
     let s = b .before in
     answers-same (s .args .out .now)
-    (split-whole _ _ (one-is _ _ (s .pre)) (eqb-true _ 5 (sym (t .before .is .ensures) ∙ not-false _ (t .if1 .left)))
+    (split-whole _ _ (one-is _ _ (s .pre)) (eqb-true _ _ (sym (t .before .is .ensures) ∙ not-false _ (t .if1 .left)))
     (below-all 256 (s .args .bytes .now) (λ i h. omega (arith, b .shared-slice-known .given i))) _ (f .from-code .ensures))
     (w .write-units .ensures .0) (w .write-units .ensures .1)
 

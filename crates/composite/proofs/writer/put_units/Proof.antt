@@ -1,20 +1,13 @@
 -- `put_units` meets its contract: the units up to i are laid.
 use borrow.Author.Needs.{needs}
-use Prim.Native.Nat.{ℕ, _≤_, _-_}
+use Prim.Native.Nat.{_≤_, _-_}
 use mathlib.Core.Path.{_≡_}
-use mathlib.Core.List.{List, []}
 use native.Mathlib.Omega.{arith}
-use lib.ListN.{length, getD}
-use Rattle.iscc.specs.Item.{itemBytes}
-use Rattle.iscc.specs.declared.main_type.MainType.{MainType}
-use Rattle.composite.specs.Code.{unitOf}
+use lib.ListN.{length}
 use Rattle.composite.proofs.Parts.{Laid, none-laid, more-laid, all-laid}
-use Rattle.composite.proofs.Units.{code-ok, code-long, code-units}
+use Rattle.composite.proofs.Units.{unitIn, code-ok, code-long, code-units}
 use Rattle.composite.proofs.writer.put_units.Statement.{statement}
 use Rattle.composite.proofs.writer.put_units.Tie as tie
-
-abbrev unitIn : List MainType → ℕ → List (List ℕ) → ℕ → List ℕ
-unitIn units s bodies j = itemBytes (unitOf (getD units j (record { number = 0 }) .number) s (getD bodies j []))
 
 abbrev Inv-loop : tie.InvT-loop
 Inv-loop out₀ bodies units count subtype i₀ out i = (i ≤ count) × Laid (unitIn units subtype bodies) 10 out₀ out i
