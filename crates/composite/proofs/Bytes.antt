@@ -93,14 +93,21 @@ module _ (c : Composite) (ok : Sound c) where
   header-set m (x ∷ []) e h = absurd (omega (arith, h))
   header-set m (x ∷ y ∷ d) e h = rw (front-is, e)
 
-  pub code-put : (m k : ℕ) (rs : List (List ℕ)) (d e : List ℕ) → m ≡ number ISCC → k ≡ count → rs ≡ c .bodies → 2 ≤ length d
-      → e ≡ laid (λ i. getD rs i []) k ++ drop (k * 8) (take (length (fronted m d) - 2) (drop 2 (fronted m d)))
-      → take 2 (fronted m d) ++ (e ++ drop (length (fronted m d) - 2) (drop 2 (fronted m d))) ≡ areaAfter (accept (compositeBytes c)) d
-  code-put m k rs d e em ek er l ee = code-over k rs d (fronted m d) e ek er (header-set m d em l) ee
-
-  pub put-same : (a d : List ℕ) → a ≡ areaAfter (accept (compositeBytes c)) d → 2 + count * 8 ≤ length d → length a ≡ length d
+  put-same : (a d : List ℕ) → a ≡ areaAfter (accept (compositeBytes c)) d → 2 + count * 8 ≤ length d → length a ≡ length d
   put-same a d e h =
       ap length e ∙ length-append (compositeBytes c) (drop (length (compositeBytes c)) d) ∙ omega (arith, code-length, length-drop (length (compositeBytes c)) d)
+
+  -- such an area, with e put to its part behind them: it starts with the code, and is as long as before
+  abbrev pub Put : ℕ → List ℕ → List ℕ → Type 0
+  Put m d e =
+      let a : List ℕ = take 2 (fronted m d) ++ (e ++ drop (length (fronted m d) - 2) (drop 2 (fronted m d))) in
+      (a ≡ areaAfter (accept (compositeBytes c)) d) × (length a ≡ length d)
+
+  pub code-put : (m k : ℕ) (rs : List (List ℕ)) (d e : List ℕ) → m ≡ number ISCC → k ≡ count → rs ≡ c .bodies → 2 + k * 8 ≤ length d
+      → e ≡ laid (λ i. getD rs i []) k ++ drop (k * 8) (take (length (fronted m d) - 2) (drop 2 (fronted m d))) → Put m d e
+  code-put m k rs d e em ek er l ee =
+      let w = code-over k rs d (fronted m d) e ek er (header-set m d em (omega arith)) ee in
+      (w, put-same _ d w (rw (← ek) l))
 
 -- ---- from a meaning
 

@@ -6,7 +6,7 @@ use native.Mathlib.Omega.{arith}
 use lib.ListN.{length, getD, length-set}
 use Rattle.iscc.specs.Permitted.{setOf}
 use Rattle.iscc.proofs.Permitted.{count-most}
-use Rattle.composite.proofs.Bytes.{part-room, fronted, subtype-fits, code-put, put-same}
+use Rattle.composite.proofs.Bytes.{part-room, fronted, subtype-fits, Put, code-put}
 use borrow.Author.Needs.{needs}
 use Rattle.composite.proofs.writer.put_code.Statement.{statement}
 use Rattle.composite.proofs.writer.put_code.Tie as tie
@@ -33,22 +33,21 @@ put-bodies-requires c κs =
     let k = count-most (setOf (s .args .c .«length_number»)) in
     (omega (arith, s .pre .1, k), part-room (fronted _ (s .pre .0) _ (s .args .out .now)) 2 (s .args .count * 8) (simp length-set (s .pre .2)), λ i h. ap (λ (x : List (List ℕ)). length (getD x i [])) (b .bodies-of .ensures) ∙ s .pre .0 .bodies i h)
 
-same-length : tie.Need-same-length
-same-length c =
-    let p = c .before .before in
+-- the area once the bodies are put
+put : (p : tie.After-put-bodies) →
     let n = p .before .before .before .before in
-    let b = n .before in
-    let s = b .before .before in
-    put-same (s .args .c) (s .pre .0) _ (s .args .out .now)
-    (code-put (s .args .c) (s .pre .0) _ _ _ (s .args .out .now) _ (n .number .ensures) (s .pre .1) (b .bodies-of .ensures) (omega (arith, s .pre .2)) (p .put-bodies .ensures)) (rw (← s .pre .1) (s .pre .2))
+    let s = n .before .before .before in
+    Put (s .args .c) (s .pre .0) (n .number .result) (s .args .out .now) (p .put-bodies .last .1 .1 .0)
+put p =
+    let n = p .before .before .before .before in
+    let s = n .before .before .before in
+    code-put (s .args .c) (s .pre .0) _ _ _ (s .args .out .now) _ (n .number .ensures) (s .pre .1) (n .before .bodies-of .ensures) (s .pre .2) (p .put-bodies .ensures)
+
+same-length : tie.Need-same-length
+same-length c = put (c .before .before) .1
 
 returns : tie.Need-returns
-returns c =
-    let p = c .before .before in
-    let n = p .before .before .before .before in
-    let b = n .before in
-    let s = b .before .before in
-    code-put (s .args .c) (s .pre .0) _ _ _ (s .args .out .now) _ (n .number .ensures) (s .pre .1) (b .bodies-of .ensures) (omega (arith, s .pre .2)) (p .put-bodies .ensures)
+returns c = put (c .before .before) .0
 
 pub put-code-spec : {M : Type 1} → statement M
 put-code-spec =
