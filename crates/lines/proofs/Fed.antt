@@ -125,22 +125,13 @@ unfolding roomFor
 as-fed d piece line after out held r room e = rw (le-leb 1024 (length line) room) e
 
 module _ (d piece line : List ℕ) (held : ℕ) (after out : List ℕ) (kept used written : ℕ) (s : Sofar d piece line held after out kept used written) where
-  abbrev Now : Type 0
-  Now = Ended d (fedBy line held piece (length d)) line (record { held = kept; used = used; written = written }) after out
-
-  nothing : feeding (length d - written) (begunLine line kept) (drop used piece) ≡ nothingFed (begunLine line kept) → Now
-  nothing e =
+  pub ended-full : length out - written < 74 → Ended d (fedBy line held piece (length d)) line (record { held = kept; used = used; written = written }) after out
+  ended-full l =
+      let e : feeding (length d - written) (begunLine line kept) (drop used piece) ≡ nothingFed (begunLine line kept) = fed-none _ _ (drop used piece) (omega (arith, length-written (s .wrote))) in
       let k : LineKept (begunLine line kept) line kept after = (s .count, s .same ∙ line-same line kept) in
       let z : used + 0 ≡ used = omega arith in
       let r = ended d line after out kept written used 0 (begunLine line kept) (s .answers) (feeding (length d) (begunLine line held) piece) (s .rest ∙ ap (behind used (s .answers)) e) k (s .wrote) in
       as-fed d piece line after out held _ (s .room) (rw z at r)
-
-  pub ended-full : length out - written < 74 → Now
-  ended-full l = nothing (fed-none (length d - written) (begunLine line kept) (drop used piece) (omega (arith, length-written (s .wrote))))
-
-  pub ended-all : length piece ≤ used → Now
-  unfolding feeding
-  ended-all l = nothing (rw (drop-of-length-le piece l))
 
   module _ (cs : List ℕ) (part : cs ≡ take (length piece - used) (drop used piece)) (fits : 74 ≤ length out - written) (n : ℕ) (found : n ≡ firstNot notLF cs) where
     part-is : cs ≡ drop used piece

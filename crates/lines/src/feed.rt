@@ -37,23 +37,14 @@ pub fn feed(line: &mut [u8], held: usize, piece: &[u8], out: &mut [u8]) -> Fed
     }
     let mut used = 0;
     let mut written = 0;
-    while used < piece.len() {
-        if out.len() - written < ROOM {
-            return Fed {
-                held: kept,
-                used,
-                written,
-            };
-        }
+    while ROOM <= out.len() - written {
         let rest = &piece[used..];
         let n = scan::line_length(rest);
+        // No LF is left. A rest of no bytes adds nothing.
         if n == rest.len() {
-            let held = begun::add(line, kept, rest);
-            return Fed {
-                held,
-                used: used + n,
-                written,
-            };
+            kept = begun::add(line, kept, rest);
+            used += n;
+            break;
         }
         written += answer::joined(line, kept, &rest[0..n], &mut out[written..]);
         kept = 0;
