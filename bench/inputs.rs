@@ -3,14 +3,20 @@
 use crate::random::Random;
 
 /// So many different inputs are taken in turn, so that no branch can be learnt by heart.
-pub const VARIANTS: u64 = 64;
+const VARIANTS: u64 = 64;
 
-fn variants(make: impl Fn(&mut Random) -> Vec<u8>) -> Vec<Vec<u8>> {
-    (0..VARIANTS).map(|case| make(&mut Random::of_case(68, 0, case))).collect()
+fn case_of(number: u64) -> Random {
+    Random::of_case(68, 0, number)
 }
 
+fn variants(make: impl Fn(&mut Random) -> Vec<u8>) -> Vec<Vec<u8>> {
+    (0..VARIANTS).map(|number| make(&mut case_of(number))).collect()
+}
+
+/// Large ones are few, so that they stay in the cache as they would in use.
 pub fn bytes(length: usize) -> Vec<Vec<u8>> {
-    variants(|random| random.bytes(length))
+    let count = (1024 * 1024 / length as u64).clamp(1, VARIANTS);
+    (0..count).map(|number| case_of(number).bytes(length)).collect()
 }
 
 fn encoded(bytes: &[u8]) -> Vec<u8> {

@@ -1,18 +1,6 @@
 //! The measured entries of the proved libraries, with the same signatures as the plain ones.
 
-#[repr(C)]
-struct Written {
-    number: u32,
-    length: usize,
-}
-
-#[repr(C)]
-struct DistanceAnswer {
-    number: u32,
-    d: u32,
-    n: u32,
-    ratio: f32,
-}
+use crate::entry::{self, DistanceAnswer, Written};
 
 extern "C" {
     fn iscc_intake(text: *const u8, text_len: usize, out: *mut u8, out_len: usize) -> Written;
@@ -28,9 +16,7 @@ extern "C" {
 macro_rules! writers {
     ($($name:ident = $entry:ident;)*) => {$(
         pub fn $name(bytes: &[u8], out: &mut [u8]) -> (u32, usize) {
-            // Both areas are as long as said, and a shared and a unique borrow cannot overlap.
-            let answer = unsafe { $entry(bytes.as_ptr(), bytes.len(), out.as_mut_ptr(), out.len()) };
-            (answer.number, answer.length)
+            entry::write($entry, bytes, out)
         }
     )*};
 }
@@ -45,12 +31,9 @@ writers! {
 }
 
 pub fn strict(text: &[u8]) -> u32 {
-    // The area is as long as said.
-    unsafe { iscc_strict(text.as_ptr(), text.len()) }
+    entry::test(iscc_strict, text)
 }
 
 pub fn distance(a: &[u8], b: &[u8]) -> (u32, u32, u32, f32) {
-    // The areas are as long as said.
-    let answer = unsafe { iscc_distance(a.as_ptr(), a.len(), b.as_ptr(), b.len()) };
-    (answer.number, answer.d, answer.n, answer.ratio)
+    entry::measure(iscc_distance, a, b)
 }

@@ -1,6 +1,7 @@
-//! Two sides measured in turns within one run.
+//! The proved and the plain side measured in turns within one run.
 
-use std::time::{Duration, Instant};
+use crate::turns::{calls_in, in_turns};
+use std::time::Duration;
 
 /// Odd, so that the median is one of them.
 const ROUNDS: usize = 41;
@@ -14,37 +15,15 @@ pub struct Figures {
     pub ratio: f64,
 }
 
-fn time(side: &mut dyn FnMut(usize), calls: usize) -> Duration {
-    let start = Instant::now();
-    side(calls);
-    start.elapsed()
-}
-
-/// Calls that fill a turn.
-fn calibrate(side: &mut dyn FnMut(usize)) -> usize {
-    let mut calls = 1;
-    while time(side, calls) < TURN {
-        calls *= 2;
-    }
-    calls
-}
-
 pub fn median(mut figures: Vec<f64>) -> f64 {
     figures.sort_by(f64::total_cmp);
     figures[figures.len() / 2]
 }
 
-/// Each side takes a count of calls to make. The one that starts changes from round to round.
-pub fn side_by_side(proved: &mut dyn FnMut(usize), plain: &mut dyn FnMut(usize)) -> Figures {
-    let calls = [calibrate(proved), calibrate(plain)];
-    let mut times = [Vec::new(), Vec::new()];
-    for round in 0..ROUNDS {
-        for turn in 0..2 {
-            let side = (round + turn) % 2;
-            let taken = if side == 0 { time(proved, calls[0]) } else { time(plain, calls[1]) };
-            times[side].push(taken.as_nanos() as f64 / calls[side] as f64);
-        }
-    }
+/// Each side takes a count of calls to make.
+pub fn side_by_side(mut proved: impl FnMut(usize), mut plain: impl FnMut(usize)) -> Figures {
+    let calls = [calls_in(TURN, &mut proved), calls_in(TURN, &mut plain)];
+    let times = in_turns(ROUNDS, calls, |side, calls| if side == 0 { proved(calls) } else { plain(calls) });
     let ratios = times[0].iter().zip(&times[1]).map(|(proved, plain)| proved / plain).collect();
     let [proved, plain] = times.map(median);
     Figures { proved, plain, ratio: median(ratios) }

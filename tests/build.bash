@@ -1,4 +1,4 @@
-# Builds the outside tests into target/tests. Sourced by `run`, `selftest` and `bench/run`, at the repository's top.
+# Builds the outside tests into target/tests. Sourced by `run` and `selftest`, at the repository's top.
 
 built=$PWD/target/tests
 

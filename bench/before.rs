@@ -1,0 +1,103 @@
+//! Two revisions of the library through their C entries, in one process. `before check` says which rows are left out and whether
+//! both answer alike on the others; `before measure` prints the figures of this process, a row a line, with tabs between them.
+
+mod entry;
+mod inputs;
+#[allow(dead_code)]
+#[path = "../tests/compare/random.rs"]
+mod random;
+mod revisions;
+mod rows;
+mod turns;
+
+use revisions::{Entries, Entry};
+use rows::Row;
+use std::process::exit;
+use std::time::Duration;
+use turns::{calls_in, in_turns, over};
+
+const ROUNDS: usize = 250;
+/// Calls are doubled until they take longer than this, so that a turn takes some 300 microseconds.
+const TURN: Duration = Duration::from_micros(200);
+
+/// The entries of a row, before and after.
+type Sides = [Entry; 2];
+
+#[derive(Debug, PartialEq)]
+enum Answer {
+    Written((u32, usize)),
+    Tested(u32),
+    Measured((u32, u32, u32, f32)),
+}
+
+fn name_left_out(rows: &[Row]) {
+    for row in rows {
+        for (revision, entries) in [("before", Entries::before()), ("after", Entries::after())] {
+            if entries.of(row.call).is_none() {
+                eprintln!("left out: {row}: no such entry {revision}");
+            }
+        }
+    }
+}
+
+fn answer(entry: Entry, row: &Row, input: &[u8]) -> (Answer, Vec<u8>) {
+    let mut area = row.area();
+    let answer = match entry {
+        Entry::Writer(entry) => Answer::Written(entry::write(entry, input, &mut area)),
+        Entry::Test(entry) => Answer::Tested(entry::test(entry, input)),
+        Entry::Measure(entry) => Answer::Measured(entry::measure(entry, input, &row.inputs[0])),
+    };
+    (answer, area)
+}
+
+fn alike(row: &Row, sides: Sides) -> bool {
+    row.inputs.iter().all(|input| {
+        let [before, after] = sides.map(|entry| answer(entry, row, input));
+        if before != after {
+            let start = input[..input.len().min(80)].escape_ascii();
+            let areas = if before.1 == after.1 { "alike" } else { "not alike" };
+            eprintln!("not alike: {row}, on {start}: {:?} before, {:?} after, areas {areas}", before.0, after.0);
+        }
+        before == after
+    })
+}
+
+/// Calls on the inputs in turn. The area is never cleared: each call writes over what the last one wrote.
+fn run(entry: Entry, row: &Row, area: &mut [u8], calls: usize) {
+    match entry {
+        Entry::Writer(entry) => over(&row.inputs, calls, |input| entry::write(entry, input, area)),
+        Entry::Test(entry) => over(&row.inputs, calls, |input| entry::test(entry, input)),
+        Entry::Measure(entry) => over(&row.inputs, calls, |input| entry::measure(entry, input, &row.inputs[0])),
+    }
+}
+
+/// The mean of the fastest rounds, one in so many.
+fn fastest(times: &[f64], one_in: usize) -> f64 {
+    let count = (times.len() / one_in).max(1);
+    times[..count].iter().sum::<f64>() / count as f64
+}
+
+fn measure(row: &Row, sides: Sides) {
+    // One area for both sides, so that they differ in nothing but the entry.
+    let mut area = row.area();
+    let calls = calls_in(TURN, |calls| run(sides[0], row, &mut area, calls));
+    let mut times = in_turns(ROUNDS, [calls; 2], |side, calls| run(sides[side], row, &mut area, calls));
+    times.iter_mut().for_each(|side| side.sort_by(f64::total_cmp));
+    let [before, after] = &times;
+    let ratio = fastest(after, 4) / fastest(before, 4);
+    println!("{}\t{}\t{}\t{}\t{ratio}", row.call.name(), row.input, fastest(before, 50), fastest(after, 50));
+}
+
+fn main() {
+    let rows = rows::all();
+    let both = rows.iter().filter_map(|row| Some((row, [Entries::before().of(row.call)?, Entries::after().of(row.call)?])));
+    match std::env::args().nth(1).as_deref() {
+        Some("check") => {
+            name_left_out(&rows);
+            let differ = both.filter(|&(row, sides)| !alike(row, sides)).count();
+            exit((differ > 0) as i32)
+        }
+        Some("measure") => both.for_each(|(row, sides)| measure(row, sides)),
+        _ => exit(2),
+    }
+}

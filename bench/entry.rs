@@ -1,0 +1,39 @@
+//! The kinds of C entries, and calls through them.
+
+#[repr(C)]
+pub struct Written {
+    number: u32,
+    length: usize,
+}
+
+#[repr(C)]
+pub struct DistanceAnswer {
+    number: u32,
+    d: u32,
+    n: u32,
+    ratio: f32,
+}
+
+/// Reads one area and writes another.
+pub type Writer = unsafe extern "C" fn(*const u8, usize, *mut u8, usize) -> Written;
+/// Reads one area.
+pub type Test = unsafe extern "C" fn(*const u8, usize) -> u32;
+/// Reads two areas.
+pub type Measure = unsafe extern "C" fn(*const u8, usize, *const u8, usize) -> DistanceAnswer;
+
+pub fn write(entry: Writer, bytes: &[u8], out: &mut [u8]) -> (u32, usize) {
+    // Both areas are as long as said, and a shared and a unique borrow cannot overlap.
+    let answer = unsafe { entry(bytes.as_ptr(), bytes.len(), out.as_mut_ptr(), out.len()) };
+    (answer.number, answer.length)
+}
+
+pub fn test(entry: Test, text: &[u8]) -> u32 {
+    // The area is as long as said.
+    unsafe { entry(text.as_ptr(), text.len()) }
+}
+
+pub fn measure(entry: Measure, a: &[u8], b: &[u8]) -> (u32, u32, u32, f32) {
+    // The areas are as long as said.
+    let answer = unsafe { entry(a.as_ptr(), a.len(), b.as_ptr(), b.len()) };
+    (answer.number, answer.d, answer.n, answer.ratio)
+}

@@ -1,0 +1,84 @@
+//! The entries of both revisions. `bench/before` has named them before_NAME and after_NAME.
+
+use crate::entry::{Measure, Test, Writer};
+use crate::rows::Call;
+use std::arch::global_asm;
+
+#[derive(Clone, Copy)]
+pub enum Entry {
+    Writer(Writer),
+    Test(Test),
+    Measure(Measure),
+}
+
+// A table of addresses for each revision. The names are weak: one that a revision lacks is a null address, which is None.
+macro_rules! table {
+    ($revision:literal, $($name:ident)*) => {
+        global_asm!(
+            ".pushsection .data.rel.ro, \"aw\"",
+            ".balign 8",
+            concat!(".globl ", $revision, "_entries"),
+            concat!($revision, "_entries:"),
+            $(
+                concat!(".weak ", $revision, "_", stringify!($name)),
+                concat!(".quad ", $revision, "_", stringify!($name)),
+            )*
+            ".popsection",
+        );
+    };
+}
+
+macro_rules! entries {
+    ($($name:ident: $kind:ty,)*) => {
+        #[repr(C)]
+        pub struct Entries {
+            $($name: Option<$kind>,)*
+        }
+
+        table!("before", $($name)*);
+        table!("after", $($name)*);
+    };
+}
+
+entries! {
+    intake: Writer,
+    strict: Test,
+    code: Writer,
+    text: Writer,
+    base32_read: Writer,
+    base32_write: Writer,
+    join: Writer,
+    split: Writer,
+    distance: Measure,
+}
+
+extern "C" {
+    static before_entries: Entries;
+    static after_entries: Entries;
+}
+
+impl Entries {
+    pub fn before() -> &'static Entries {
+        // The table above has an address or null in each place, and never changes.
+        unsafe { &before_entries }
+    }
+
+    pub fn after() -> &'static Entries {
+        // As before.
+        unsafe { &after_entries }
+    }
+
+    pub fn of(&self, call: Call) -> Option<Entry> {
+        match call {
+            Call::Intake => self.intake.map(Entry::Writer),
+            Call::Strict => self.strict.map(Entry::Test),
+            Call::Code => self.code.map(Entry::Writer),
+            Call::Text => self.text.map(Entry::Writer),
+            Call::Base32Read => self.base32_read.map(Entry::Writer),
+            Call::Base32Write => self.base32_write.map(Entry::Writer),
+            Call::Join => self.join.map(Entry::Writer),
+            Call::Split => self.split.map(Entry::Writer),
+            Call::Distance => self.distance.map(Entry::Measure),
+        }
+    }
+}
