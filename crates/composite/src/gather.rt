@@ -54,7 +54,7 @@ fn bodies_at(bytes: &[u8], offsets: [usize; 7], set: UnitSet) -> [[u8; 8]; 5]
     requires { ⌜ (set .count ≤ 5) × ((i : ℕ) → i < set .count → (typeAt (set .units) i .number < 7) × (bodyOffset offsets (set .units) i + 8 ≤ length (now bytes))) ⌝ }
     ensures { λ r. ⌜ r ≡ filledBodies (λ i. take 8 (drop (bodyOffset offsets (set .units) i) (now (bytes .entry)))) (set .count) 5 ⌝ }
 {
-    let count = set.count;
+    let count = set.count as usize;
     let units = set.units;
     let mut found = [[0u8; 8]; 5];
     let mut i: usize = 0;

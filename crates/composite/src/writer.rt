@@ -86,7 +86,7 @@ fn put_units(c: Composite, set: UnitSet, out: &mut [u8])
 {
     let bodies = bodies::bodies_of(c);
     let units = set.units;
-    let unit_count = set.count;
+    let unit_count = set.count as usize;
     let subtype = c.subtype;
     let mut i: usize = 0;
     while i < unit_count {
@@ -102,7 +102,7 @@ pub(crate) fn write_units(c: Composite, out: &mut [u8]) -> Written
     ensures area { λ r. ⌜ now (out .exit) ≡ areaAfter (into (length (now (out .entry))) (accept (splitInto c))) (now (out .entry)) ⌝ }
 {
     let set = tables::unit_set(c.length_number);
-    let size = set.count * 10;
+    let size = set.count as usize * 10;
     if out.len() < size {
         return Written::Refused(Refusal::AREA_TOO_SHORT);
     }

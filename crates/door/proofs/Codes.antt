@@ -6,7 +6,7 @@ use native.Mathlib.Omega.{arith}
 use lib.ListN.{length, take, drop}
 use lib.Seq.{take-length, length-take-le}
 use borrow.Author.Tests.{le-leb, lt-leb}
-use Rattle.iscc.specs.Refusals.{Refusal, areaTooShort}
+use Rattle.iscc.specs.Refusals.{Refusal, longText, areaTooShort}
 use Rattle.iscc.specs.Answer.{Answer, accept, refuse, _>>=_, into, areaAfter}
 use Rattle.iscc.specs.Item.{Item, itemBytes, itemOf}
 use Rattle.iscc.specs.Items.{readItems, meaningOfItems}
@@ -20,7 +20,7 @@ use Rattle.composite.specs.Canonical.{detailOf, canonicalBytes}
 use Rattle.payload.specs.Payloads.{payloadDetail, payloadAnswerAs}
 use Rattle.payload.specs.declared.reader.PayloadAnswer.{PayloadAnswer}
 use Rattle.payload.specs.declared.reader.PayloadAnswer.the-variants as payload
-use Rattle.payload.proofs.Payloads.{payload-fits}
+use Rattle.payload.proofs.Payloads.{payload-fits, payload-long}
 use Rattle.door.specs.Codes.{codeDetail}
 use Rattle.door.proofs.Answers.{Held, Told, told, payload-held, payload-not, code-held, code-not}
 
@@ -44,6 +44,9 @@ unfolding codeDetail
 not-found t q p e d =
     let c : codeBytes t ≡ refuse q = code-behind t ∙ ap (λ (x : Answer (List ℕ)). x >>= canonicalBytes) e in
     rw (c, e, d)
+
+pub code-long : (t : List ℕ) (r : CodeRead) → 1024 < length t → r ≡ codeReadAs 0 (refuse longText) → r ≡ codeReadAs (codeDetail t) (codeBytes t)
+code-long t r l e = let h = payload-long t l in e ∙ not-found t longText 0 (h .0) (h .1)
 
 module _ (t : List ℕ) (r : PayloadAnswer) (answer : r ≡ payloadAnswerAs (payloadDetail t) (into 50 (payload t))) where
   told-as : r ≡ payloadAnswerAs (payloadDetail t) (payload t)

@@ -11,8 +11,7 @@ use iscc::refusal::Refusal;
 use iscc::written::Written;
 use payload::reader::PayloadAnswer;
 
-// The code by value. Gives 2, 1, 3 to 14 in the order of the doors.
-pub fn read(text: &[u8]) -> CodeRead
+fn read_typed(text: &[u8]) -> CodeRead
     ensures { λ r. ⌜ r ≡ codeReadAs (codeDetail (now (text .entry))) (codeBytes (now (text .entry))) ⌝ }
 {
     let mut bytes = [0u8; 50];
@@ -20,6 +19,16 @@ pub fn read(text: &[u8]) -> CodeRead
         PayloadAnswer::Length(n) => composite::code::read(&bytes[0..n]),
         PayloadAnswer::Refused(q, detail) => composite::code::refused(q, detail),
     }
+}
+
+// The code by value. Gives 2, 1, 3 to 14 in the order of the doors. Nothing is set up for a text that is too long.
+pub fn read(text: &[u8]) -> CodeRead
+    ensures { λ r. ⌜ r ≡ codeReadAs (codeDetail (now (text .entry))) (codeBytes (now (text .entry))) ⌝ }
+{
+    if payload::reader::LONGEST_TYPED < text.len() {
+        return composite::code::refused(Refusal::LONG_TEXT, 0);
+    }
+    read_typed(text)
 }
 
 // Writes the code to the front of the area. Gives 15 where the area is below 42 bytes, whatever the text; then 2, 1, 3 to 14.

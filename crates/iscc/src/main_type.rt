@@ -8,7 +8,7 @@ use crate::refusal::Refusal;
 
 // A main type of document 01.
 pub struct MainType {
-    number: u32,
+    number: u8,
 }
 
 // What a number names.
@@ -52,7 +52,9 @@ impl MainType {
         ensures { λ r. ⌜ r ≡ namedAs (mainTypeOf number) ⌝ }
     {
         if number < 7 {
-            return Named::MainType(MainType { number });
+            return Named::MainType(MainType {
+                number: number as u8,
+            });
         }
         Named::Refused(Refusal::NOT_PERMITTED)
     }
@@ -60,7 +62,7 @@ impl MainType {
     pub fn number(self) -> u32
         ensures { λ r. ⌜ r ≡ self .number ⌝ }
     {
-        self.number
+        self.number as u32
     }
 
     pub fn is(self, other: MainType) -> bool

@@ -18,7 +18,7 @@ pub fn alphabet() -> [u8; 32]
 // The main types of the units in a composite, in their order, then ID as filling; and how many bodies it has.
 pub struct UnitSet {
     pub units: [MainType; 5],
-    pub count: usize,
+    pub count: u8,
 }
 
 const META: MainType = MainType::META;
@@ -87,8 +87,8 @@ pub fn unit_set(length_number: usize) -> UnitSet
     SETS[row]
 }
 
-// The table's count alone, computed: DATA and INSTANCE, and one for each number that the length number is the sum of. A table is
-// built anew where an entry of it is read, which costs more than the rest of a reader's work on a header.
+// The table's count alone, computed: DATA and INSTANCE, and one for each number that the length number is the sum of. The compiler
+// builds a table anew where an entry of it is read, which costs more than the rest of a reader's work on a header.
 pub fn body_count(length_number: usize) -> usize
     ensures { λ r. ⌜ (r ≡ unitCount (setOf «length_number»)) × (r ≤ 5) ⌝ }
 {

@@ -166,6 +166,9 @@ payload-fits t = into-fits 50 (payload t) (payload-most t)
 
 -- ---- 2
 
-pub payload-long : (t d : List ℕ) → 1024 < length t → Answered t d (Refused longText 0) d
+pub payload-long : (t : List ℕ) → 1024 < length t → (payload t ≡ refuse longText) × (payloadDetail t ≡ 0)
 unfolding payload payloadDetail
-payload-long t d l = let b = lt-leb (length t) 1024 l in refused t d longText (rw b) (rw b)
+payload-long t l = let b = lt-leb (length t) 1024 l in (rw b, rw b)
+
+pub text-long : (t d : List ℕ) → 1024 < length t → Answered t d (Refused longText 0) d
+text-long t d l = let h = payload-long t l in refused t d longText (h .0) (h .1)

@@ -25,17 +25,17 @@ unfolding filledBodies
 loop-holds c = (omega arith, refl)
 
 array-read-offset : tie.Need-array-read-offset Inv-loop μ-loop
-array-read-offset c = omega (arith, c .number .ensures, c .before .before .before .before .before .before .pre .1 (c .before .before .before .loop .i) (omega arith) .0)
+array-read-offset c = omega (arith, c .number .ensures, c .before .before .before .before .before .before .before .pre .1 (c .before .before .before .loop .i) (omega arith) .0)
 
 eight-bytes-requires : tie.Need-eight-bytes-requires Inv-loop μ-loop
 eight-bytes-requires c κs =
-    let a = c .before .before .before .before .before .before .args in
+    let a = c .before .before .before .before .before .before .before .args in
     subst⁻¹ (λ (m : ℕ). getD (a .t2) m 0 + 8 ≤ length (a .bytes .now)) (c .number .ensures)
-    (c .before .before .before .before .before .before .pre .1 (c .before .before .before .loop .i) (omega arith) .1)
+    (c .before .before .before .before .before .before .before .pre .1 (c .before .before .before .loop .i) (omega arith) .1)
 
 loop-again : tie.Need-loop-again Inv-loop μ-loop
 loop-again c =
-    let a = c .before .before .before .before .before .before .before .args in
+    let a = c .before .before .before .before .before .before .before .before .args in
     let l = c .before .before .before .before .loop in (
       omega arith,
       one-filled (body (a .bytes .now) (a .t2) (a .set .units)) (l .i) 5 _ _ (omega arith) (l .inv .1)
@@ -44,7 +44,7 @@ loop-again c =
 
 returns : tie.Need-returns Inv-loop μ-loop
 returns c =
-    let a = c .before .before .before .before .args in
+    let a = c .before .before .before .before .before .args in
     let n : c .before .loop .i ≡ a .set .count = omega arith in
     c .before .loop .inv .1 ∙ ap (λ (m : ℕ). filledBodies (body (a .bytes .now) (a .t2) (a .set .units)) m 5) n
 
@@ -54,8 +54,8 @@ bodies-at-spec =
     (tie.spec
     Inv-loop
     μ-loop
-    loop-holds
     (λ c. search needs)
+    loop-holds
     (λ c. search needs)
     (λ c κs. search needs)
     (λ c. search needs)

@@ -21,7 +21,7 @@ loop-holds c = (omega arith, none-laid _ 10 _)
 put-unit-requires : tie.Need-put-unit-requires Inv-loop μ-loop
 put-unit-requires c κs =
     let l = c .before .before .before .before in
-    let b = l .before .before in
+    let b = l .before .before .before in
     let s = b .before .before in
     let k = code-ok (s .args .c) (s .pre .0) (s .args .set) (s .pre .1) (b .bodies-of .result) (b .bodies-of .ensures) (l .loop .i) (omega arith) in
     (k .0, k .1, omega (arith, l .loop .inv .1 .same, s .pre .3))
@@ -30,7 +30,7 @@ loop-again : tie.Need-loop-again Inv-loop μ-loop
 loop-again c =
     let w = c .before .before in
     let l = w .before .before .before .before .before in
-    let b = l .before .before in
+    let b = l .before .before .before in
     let s = b .before .before in
     let e : length (w .put-unit .last .1 .1 .1 .1 .0) ≡ length (l .loop .out) = search needs in (
       omega arith,
@@ -40,7 +40,7 @@ loop-again c =
 
 returns : tie.Need-returns Inv-loop μ-loop
 returns c =
-    let b = c .before .before .before in
+    let b = c .before .before .before .before in
     let s = b .before .before in
     code-units (s .args .c) (s .pre .0) (s .args .set) (s .pre .1) (b .bodies-of .result) (b .bodies-of .ensures) (s .args .out .now) _
     (all-laid (unitIn (s .args .set .units) (s .args .c .subtype) (b .bodies-of .result)) 10 (s .args .out .now) _ _ (c .before .loop .inv .1) (s .args .set .count) (omega arith))
@@ -52,8 +52,8 @@ put-units-spec =
     Inv-loop
     μ-loop
     (λ c κs. search needs)
-    loop-holds
     (λ c. search needs)
+    loop-holds
     (λ c. search needs)
     (λ c. search needs)
     (λ c. search needs)

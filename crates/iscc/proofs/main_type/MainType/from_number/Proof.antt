@@ -15,4 +15,4 @@ unfolding mainTypeOf
 returns-2 c = rw (le-ltb _ _ (c .if1 .left))
 
 pub from-number-spec : {M : Type 1} → statement M
-from-number-spec = tie.close (tie.spec returns returns-2)
+from-number-spec = tie.close (tie.spec (λ c. search needs) returns returns-2)
