@@ -1,4 +1,4 @@
--- The C entries' answers as forms of the definitions' values, and what they promise.
+-- The C entries' answers as representations of the definitions' values, and what they promise.
 pub mod Representation
 pub mod Numbers
 pub mod Demand3

@@ -1,4 +1,4 @@
--- The C entries' answers as forms of the definitions' values.
+-- The C entries' answers as representations of the definitions' values.
 use Rattle.distance.specs.declared.answer.Measured.{Measured}
 use Rattle.console.specs.declared.distances.DistanceAnswer.{DistanceAnswer}
 

@@ -1,2 +1,2 @@
--- The code's types of this crate as forms of the definitions' values.
+-- The code's types of this crate as representations of the definitions' values.
 pub mod Representation

@@ -1,5 +1,5 @@
--- The code's answer of a distance as a form of the definitions' value.
-use Prim.Native.Nat.{ℕ, _≤_}
+-- The code's answer of a distance as a representation of the definitions' value.
+use Prim.Native.Nat.{ℕ}
 use mathlib.Core.Path.{_≡_}
 use mathlib.Core.Bool.{Bool, true, _&&_}
 use mathlib.Core.Logic.{_⊎_}

@@ -1,4 +1,4 @@
--- The code's types (src/) as forms of the definitions' values.
+-- The code's types (src/) as representations of the definitions' values.
 use Prim.Native.Nat.{ℕ, _+_, _*_, _^_, _≤_, _/_, _%_}
 use mathlib.Core.Path.{_≡_}
 use mathlib.Core.List.{List}

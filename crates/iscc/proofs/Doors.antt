@@ -1,5 +1,5 @@
--- Laws A and B of the doors: what a text means is permitted, and the text of a permitted meaning has that meaning.
--- Demand 3 follows.
+-- The laws of the doors from which demand 3 follows: what a text means is permitted (`meant`), the text of a permitted meaning has
+-- that meaning (`back`), and it has at most 73 characters (`short`).
 use Prim.Native.Nat.{ℕ, _+_, _*_, _/_, _≤_, _<_}
 use mathlib.Core.Path.{_≡_, refl, sym, _∙_, ap}
 use mathlib.Core.Bool.{false, not}
@@ -28,7 +28,7 @@ use Rattle.iscc.proofs.Items.{items-read, means-permitted, read-items}
 use Rattle.iscc.specs.Demands.{Demand3}
 use Rattle.iscc.proofs.Demand3.{demand3-from}
 
--- ---- A: what a text means is permitted
+-- ---- what a text means is permitted
 
 pub run-read : (a : Alphabet) (most : ℕ) (cs bs : List ℕ) → decodeRun a most cs ≡ accept bs → decode a cs ≡ accept bs
 unfolding decodeRun
@@ -53,7 +53,7 @@ meant t m e =
     let b = answered (payload t) readItems (a .1) in
     means-permitted (a .0) m (items-read (b .0) (a .0) (payload-below t (b .0) (b .1)) (b .2) .permitted) (a .2)
 
--- ---- B: cleaning leaves the base32 text of a written code
+-- ---- cleaning leaves the base32 text of a written code
 
 -- neither a blank nor a hyphen
 abbrev Plain : List ℕ → Type 0
@@ -91,7 +91,7 @@ unfolding cleaned behindScheme trimmed trimStart isBlank scheme schemeLength sam
 cleaned-plain t p =
     rw (trimEnd-plain (scheme ++ t) (refl, refl, (refl, refl, (refl, refl, (refl, refl, (refl, refl, p)))))) (dropHyphens-plain t p)
 
--- ---- B
+-- ---- the text of a permitted meaning
 
 -- a written code has 4 to 68 characters behind the scheme
 pub record Length (m : Meaning) : Type 0 where

@@ -1,4 +1,4 @@
--- The code's types as forms of the definitions' values.
+-- The code's types as representations of the definitions' values.
 use mathlib.Core.Path.{_≡_, _∙_, ap}
 use Rattle.iscc.specs.Representation.{outcomeAs}
 use Rattle.iscc.specs.declared.written.Outcome.{Outcome}

@@ -1,5 +1,6 @@
--- Document 01 as definitions: first what they are written with (refusals by name, answers, lists, text), then 01's sections in its
--- order, then what is promised of them: the order of refusals, the demands, the code's types as their values, the labels.
+-- Document 01 as definitions: first what they are written with (refusals by name, answers, lists, text, digits, alphabets, base32),
+-- then 01's sections in its order, but the order of refusals behind them, since it is that of every call; then what is promised of
+-- them: codes and texts, the demands; then the code's types as their values, and the labels.
 pub mod Refusals
 pub mod Answer
 pub mod Lists
@@ -14,11 +15,11 @@ pub mod Meaning
 pub mod Item
 pub mod Items
 pub mod Doors
-pub mod Codes
 pub mod Distance
 pub mod Lines
 pub mod Exactly
 pub mod RefusalOrder
+pub mod Codes
 pub mod Demands
 pub mod Representation
 pub mod Labels

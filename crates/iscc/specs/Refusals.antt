@@ -7,7 +7,7 @@ use Rattle.iscc.specs.declared.refusal.Refusal as declared
 abbrev pub Refusal : Type 0
 Refusal = declared.Refusal
 
--- A refusal is made here alone, and no law looks into one.
+-- A refusal is made here alone. Laws cite it by its name; what they say of a refusal itself is about its number alone.
 abbrev pub refusal : ℕ → Refusal
 refusal n = record { number = n }
 

@@ -1,4 +1,4 @@
--- The code's types (src/) as forms of the definitions' values.
+-- The code's types (src/) as representations of the definitions' values.
 use Prim.Native.Nat.{ℕ}
 use mathlib.Core.List.{List, [], _++_, map}
 use lib.ListN.{length, take, replicate}

@@ -1,2 +1,2 @@
--- The C entries' answers as forms of the definitions' values.
+-- The C entries' answers as representations of the definitions' values.
 pub mod Representation

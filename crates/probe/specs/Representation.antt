@@ -1,4 +1,4 @@
--- The C entries' types as forms of the definitions' values.
+-- The C entries' types as representations of the definitions' values.
 use Prim.Native.Nat.{ℕ}
 use Rattle.iscc.specs.Header.{Header}
 use Rattle.header.specs.Representation as header
