@@ -10,10 +10,10 @@ use lib.Dec.{ltb, leb}
 use Rattle.iscc.specs.Answer.{Answer, accept, refuse}
 use Rattle.iscc.specs.Digits.{value}
 use Rattle.iscc.specs.Varnibble.{Parsed, firstOf, rowBy, readVarnibble}
-use Rattle.iscc.specs.Header.{nibbles, readHeader}
+use Rattle.iscc.specs.Header.{Writable, nibbles, readHeader}
 use Rattle.iscc.specs.Header as iscc
 use Rattle.iscc.proofs.Answer.{passed, accept-inj}
-use Rattle.iscc.proofs.Header.{Writable, length-nibbles, FourRead, parsedFour, four-read}
+use Rattle.iscc.proofs.Header.{length-nibbles, FourRead, parsedFour, four-read}
 use Rattle.header.specs.declared.reader.RawHeader.{RawHeader}
 use Rattle.header.specs.declared.reader.HeaderRead.the-variants.{Header}
 use Rattle.header.specs.Representation.{headerFrom, rawHeaderAs, headerReadAs}

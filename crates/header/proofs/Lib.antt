@@ -1,5 +1,4 @@
 -- The laws that carry the definitions of `iscc` to the bytes and nibbles, where the code reads and writes.
-pub mod Cases
 pub mod Nibbles
 pub mod Read
 pub mod Bounds

@@ -8,11 +8,11 @@ use borrow.Author.Tests.{not-true, not-false, ltb-true, ltb-false}
 use lib.ListN.{length, getD, take, drop}
 use lib.Dec.{eqb, ltb, leb}
 use Rattle.iscc.specs.Digits.{value}
-use Rattle.iscc.specs.Varnibble.{Parsed, firstOf, rowBy, readVarnibble}
+use Rattle.iscc.specs.Varnibble.{Parsed, parsed, firstOf, rowBy, readVarnibble}
 use Rattle.iscc.specs.Answer.{Answer, accept, refuse, _>>_, _otherwise_}
 use Rattle.iscc.specs.Refusals.{badHeader}
 use Rattle.iscc.specs.Header.{nibbles, readHeader}
-use Rattle.iscc.proofs.Varnibble.{parsed, row-some, read-ones, read-cut, read-here}
+use Rattle.iscc.proofs.Varnibble.{row-some, read-ones, read-cut, read-here}
 use Rattle.iscc.proofs.Header.{length-nibbles}
 use Rattle.header.specs.declared.reader.Number.{Number}
 use Rattle.header.specs.declared.rows.Row.{Row}

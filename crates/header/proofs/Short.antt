@@ -10,7 +10,7 @@ use lib.ListN.{length, getD, drop}
 use lib.Seq.{drop-cons}
 use borrow.Author.Tests.{ltb-true}
 use Rattle.iscc.specs.Answer.{accept}
-use Rattle.iscc.specs.Header.{Header, headerBytes, readHeader}
+use Rattle.iscc.specs.Header.{Header, headerWithNumbers, headerBytes, readHeader}
 use Rattle.iscc.proofs.Booleans.{both-true}
 use Rattle.iscc.proofs.Header.{read-header, short-bytes}
 use Rattle.header.specs.declared.reader.HeaderRead.the-variants as read
@@ -19,7 +19,7 @@ use Rattle.header.specs.Representation.{headerReadAs, shortHeader}
 
 module _ (a b : ℕ) (rest : List ℕ) (a₁ : a / 16 < 8) (a₂ : a % 16 < 8) (b₁ : b / 16 < 8) (b₂ : b % 16 < 8) where
   abbrev nibbles : Header
-  nibbles = record { mainType = a / 16; subtype = a % 16; version = b / 16; lengthNumber = b % 16 }
+  nibbles = headerWithNumbers (a / 16) (a % 16) (b / 16) (b % 16)
 
   bytes : headerBytes nibbles ≡ a ∷ b ∷ []
   bytes = short-bytes (a / 16) (a % 16) (b / 16) (b % 16) a₁ a₂ b₁ b₂ ∙ rw (div-add-mod' a 16, div-add-mod' b 16)

@@ -14,14 +14,14 @@ use Rattle.iscc.specs.Answer.{Answer, accept, refuse, _>>=_, _>>_, _otherwise_,
 use Rattle.iscc.specs.Refusals.{Refusal, numberTooLarge, areaTooShort}
 use Rattle.iscc.specs.Digits.{digits}
 use Rattle.iscc.specs.Varnibble.{rowOf, varnibble, writeVarnibble}
-use Rattle.iscc.specs.Header.{packed, headerBytes, rawHeader, writeHeader}
+use Rattle.iscc.specs.Header.{Writable, packed, headerBytes, rawHeader, writeHeader}
 use Rattle.iscc.specs.Header as iscc
 use Rattle.iscc.specs.Representation.{writtenAs}
 use Rattle.iscc.specs.declared.written.Written.the-variants.{Length, Refused}
 use Rattle.iscc.proofs.Booleans.{both-true}
 use Rattle.iscc.proofs.Digits.{length-digits}
 use Rattle.iscc.proofs.Groups.{digits-join}
-use Rattle.iscc.proofs.Header.{Writable, raw-header}
+use Rattle.iscc.proofs.Header.{raw-header}
 use Rattle.header.specs.declared.Header.{Header}
 use Rattle.header.specs.declared.rows.Row.{Row}
 use Rattle.header.specs.Representation.{rowAs, RowBounds, headerFrom}

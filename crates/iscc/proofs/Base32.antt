@@ -1,7 +1,7 @@
 -- The laws of base32.
 use Prim.Native.Nat.{ℕ, _+_, _*_, _/_, _%_}
-use mathlib.Core.Path.{_≡_, refl, sym, _∙_, ap}
-use mathlib.Core.Bool.{Bool, true, false, not, _||_, Bool·beq}
+use mathlib.Core.Path.{_≡_, refl, _∙_, ap}
+use mathlib.Core.Bool.{true, not, _||_, Bool·beq}
 use native.Mathlib.Nat.{mod-lt, mul-add-mod-self-right}
 use native.Mathlib.Omega.{arith}
 use lib.Dec.{ltb, eqb, lit<, lit≤}
@@ -9,6 +9,7 @@ use borrow.Author.Tests.{eqb-true}
 use Rattle.iscc.specs.Digits.{spareCount}
 use Rattle.iscc.specs.Alphabet.{upper, indexOf, charIn, digitIn}
 use Rattle.iscc.specs.Base32.{base32}
+use Rattle.iscc.proofs.Booleans.{beq-true}
 use Rattle.iscc.proofs.Table.{upTo, at}
 use Rattle.iscc.proofs.Alphabet.{Sound}
 
@@ -22,12 +23,6 @@ bad-count k =
     let t : Bool·beq (ltb (5 * r % 8) 5) (not (eqb r 1 || eqb r 3 || eqb r 6)) ≡ true =
     at 8 (λ j. Bool·beq (ltb (5 * j % 8) 5) (not (eqb j 1 || eqb j 3 || eqb j 6))) refl r (mod-lt k (lit< tt)) in
     rw e (beq-true _ _ t)
-  where
-    beq-true : (a b : Bool) → Bool·beq a b ≡ true → a ≡ b
-    beq-true true true p = refl
-    beq-true true false p = sym p
-    beq-true false true p = p
-    beq-true false false p = refl
 
 pub sound32 : Sound base32
 unfolding upTo digitIn charIn base32 upper indexOf

@@ -1,8 +1,8 @@
 -- Digits and bytes by groups: a part in front that takes whole digits and whole bytes, and the rest behind it. For every width v of a digit.
-use Prim.Native.Nat.{ℕ, zero, suc, _+_, _-_, _*_, _/_, _%_, _^_, _≤_, _<_}
+use Prim.Native.Nat.{ℕ, _+_, _-_, _*_, _/_, _%_, _^_, _≤_, _<_}
 use mathlib.Core.Path.{_≡_, refl, sym, _∙_, ap, ap₂}
 use mathlib.Core.List.{List, [], _∷_, _++_, map, map-append, append-nil, append-assoc}
-use native.Mathlib.Nat.{mod-eq-of-lt, mul-assoc, add-mul, mul-add, mul-comm, mul-add-div-right, mul-add-mod-self-right, le-of-suc-le-suc, mul-suc, mul-one, mul-zero, div-one, lt-of-lt-of-le, add-zero, zero-add, add-assoc}
+use native.Mathlib.Nat.{mod-eq-of-lt, mul-assoc, add-mul, mul-add, mul-comm, mul-add-div-right, mul-add-mod-self-right, mul-suc, mul-one, mul-zero, div-one, lt-of-lt-of-le, add-zero, zero-add, add-assoc}
 use native.Mathlib.Numerals.{add-one}
 use native.Mathlib.Omega.{arith}
 use lib.ListN.{length, take, drop, getD, set, length-append, length-map, length-drop}
@@ -200,7 +200,6 @@ module _ (v : ℕ) (ds : List ℕ) (i o k x : ℕ) (w : v * i ≡ 8 * o) (l : i 
   value-rest : i + k ≡ length ds → value v ds ≡ value v (take i ds) * 2 ^ (8 * byteCount v k) * 2 ^ spareCount v k + x
   value-rest all =
       ap (value v) (sym (take-all (i + k) ds (omega arith))) ∙ value-next ∙ rw (bits-of v k, pow-add, mul-assoc)
-  -- the spare bits of all digits are those of the last k
 
 module _ (v : ℕ) (ds d : List ℕ) where
   pub record Decoded (area : List ℕ) (i o : ℕ) : Type 0 where
@@ -234,8 +233,3 @@ module _ (v : ℕ) (ds d : List ℕ) where
         let u : value v ds / 2 ^ q ≡ hi * 2 ^ (8 * m) + y = rw (value-rest v ds i o k x (s .whole) (omega arith) e all, f, c) (mul-add-div-right (pow-pos q) (hi * 2 ^ (8 * byteCount v k)) x) in
         rw (← all, byteCount-join v i o k (s .whole), spareCount-join v i o k (s .whole), ← c, u, digits-join 8 o m hi y h)
         (more-written m (digits 8 m y) (s .is) (length-digits 8 m y) room p)
-
-pub map-at : (f : ℕ → ℕ) (xs : List ℕ) (i : ℕ) → i < length xs → getD (map f xs) i 0 ≡ f (getD xs i 0)
-map-at f [] i h = absurd (omega arith)
-map-at f (x ∷ xs) zero h = refl
-map-at f (x ∷ xs) (suc i) h = map-at f xs i (le-of-suc-le-suc h)

@@ -12,12 +12,12 @@ use lib.Dec.{eqb}
 use borrow.Author.Tests.{eq-eqb, le-leb, eqb-true}
 use Rattle.iscc.specs.Answer.{accept}
 use Rattle.iscc.specs.Digits.{Below, digits}
-use Rattle.iscc.specs.Varnibble.{firstOf, prefixOf, rowOf, varnibble, Parsed, writeVarnibble, readVarnibble}
-use Rattle.iscc.specs.Header.{Header, nibbles, packed, headerBytes, rawHeader, readHeader}
+use Rattle.iscc.specs.Varnibble.{firstOf, prefixOf, rowOf, varnibble, Parsed, parsed, writeVarnibble, readVarnibble}
+use Rattle.iscc.specs.Header.{Header, headerWithNumbers, Writable, nibbles, packed, headerBytes, rawHeader, readHeader}
 use Rattle.iscc.proofs.Booleans.{or-left, or-right, or-cases}
 use Rattle.iscc.proofs.Digits.{below-append, below-drop}
 use Rattle.iscc.proofs.Answer.{passed, answered, accept-inj}
-use Rattle.iscc.proofs.Varnibble.{parsed, length-varnibble, varnibble-below, row-is-1, read-varnibble, Back, varnibble-read}
+use Rattle.iscc.proofs.Varnibble.{length-varnibble, varnibble-below, row-is-1, read-varnibble, Back, varnibble-read}
 
 -- the pad nibble of an odd number of nibbles
 abbrev padOf : List ℕ → List ℕ
@@ -58,10 +58,6 @@ pad-ok ns rest =
 
 abbrev nibblesOf : Header → List ℕ
 nibblesOf h = varnibble (h .mainType) ++ varnibble (h .subtype) ++ varnibble (h .version) ++ varnibble (h .lengthNumber)
-
--- numbers that varnibbles can write
-abbrev pub Writable : Header → Type 0
-Writable h = (h .mainType ≤ 4679) × (h .subtype ≤ 4679) × (h .version ≤ 4679) × (h .lengthNumber ≤ 4679)
 
 nibblesOf-below : (h : Header) → Below 16 (nibblesOf h)
 nibblesOf-below h =
@@ -122,7 +118,7 @@ unfolding varnibble digits prefixOf firstOf
 one-nibble n h = rw (row-is-1 h) (ap (λ (d : ℕ). d ∷ []) (omega arith))
 
 pub short-bytes : (m s v l : ℕ) → m < 8 → s < 8 → v < 8 → l < 8
-    → headerBytes (record { mainType = m; subtype = s; version = v; lengthNumber = l }) ≡ (m * 16 + s) ∷ (v * 16 + l) ∷ []
+    → headerBytes (headerWithNumbers m s v l) ≡ (m * 16 + s) ∷ (v * 16 + l) ∷ []
 unfolding headerBytes packed
 short-bytes m s v l a b c d = rw (one-nibble m a, one-nibble s b, one-nibble v c, one-nibble l d)
 
@@ -172,7 +168,7 @@ module _ (bs : List ℕ) (a b c d : Parsed ℕ) where
     pub pad : (eqb (four % 2) 0 || eqb (getD (nibbles bs) four 0) 0) ≡ true
 
   abbrev fourOf : Header
-  fourOf = record { mainType = a .result; subtype = b .result; version = c .result; lengthNumber = d .result }
+  fourOf = headerWithNumbers (a .result) (b .result) (c .result) (d .result)
 
   abbrev pub parsedFour : Parsed Header
   parsedFour = parsed fourOf ((four + 1) / 2)

@@ -11,14 +11,14 @@ use borrow.Author.Tests.{le-leb, leb-true}
 use Rattle.iscc.specs.Answer.{accept}
 use Rattle.iscc.specs.Digits.{Below}
 use Rattle.iscc.specs.Varnibble.{Parsed}
-use Rattle.iscc.specs.Header.{Header, headerBytes, readHeader}
+use Rattle.iscc.specs.Header.{Header, Writable, headerBytes, readHeader}
 use Rattle.iscc.specs.Permitted.{MainType, number, mainTypeOf, isUnit, permits, bodyBytes}
 use Rattle.iscc.specs.Meaning.{Sized}
 use Rattle.iscc.specs.Item.{Item, headerOf, itemWith, itemBytes, readItem, unitBytes}
 use Rattle.iscc.proofs.Answer.{passed, answered, accept-inj}
 use Rattle.iscc.proofs.Booleans.{both-true}
 use Rattle.iscc.proofs.Digits.{below-append, below-take, below-drop}
-use Rattle.iscc.proofs.Header.{Writable, read-header, header-below, length-short, short-bytes, header-read}
+use Rattle.iscc.proofs.Header.{read-header, header-below, length-short, short-bytes, header-read}
 use Rattle.iscc.proofs.Permitted.{mainTypeOf-number, mainTypeOf-back, number-small, Small, small, body-most}
 
 -- an item whose header the table permits, with a body as long as the table says

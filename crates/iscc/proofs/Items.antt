@@ -117,7 +117,7 @@ subtype-in m f is p h =
 pub record CompositeParts (is : List Item) (m : Meaning) : Type 0 where
   pub dataIn : has DATA is ≡ true
   pub instanceIn : has INSTANCE is ≡ true
-  pub eight : every is64Bits is ≡ true
+  pub all64Bits : every is64Bits is ≡ true
   pub shared : pairwise sharedSubtype is ≡ true
   pub meaning : composite (subtypeOf is) 0 (setIn is) (bodiesIn (unitTypes (setIn is)) is) ≡ m
 
@@ -130,7 +130,7 @@ compositeFrom-parts is m e =
     let e₄ = passed (has DATA is && has INSTANCE is) _ _ (e₃ .1) in
     let e₅ = passed (pairwise sharedSubtype is) _ _ (e₄ .1) in
     let d = both-true (has DATA is) (has INSTANCE is) (e₄ .0) in
-    record { dataIn = d .0; instanceIn = d .1; eight = e₂ .0; shared = e₅ .0; meaning = accept-inj (e₅ .1) }
+    record { dataIn = d .0; instanceIn = d .1; all64Bits = e₂ .0; shared = e₅ .0; meaning = accept-inj (e₅ .1) }
 
 -- the subtype of a list is one that the rules allow for its set
 subtype-allowed : (u : Set) (x y : ℕ) → (u .semantic ≡ true → x ≤ 4) → (u .content ≡ true → y ≤ 4)
@@ -147,7 +147,7 @@ pub compositeFrom-permitted : (is : List Item) (m : Meaning) → AllPermitted is
 unfolding subtypeOf row
 compositeFrom-permitted is m p e =
     let k : CompositeParts is m = compositeFrom-parts is m e in
-    let body : (t : MainType) → has t is ≡ true → Sized 8 (bytesIn (bodyIn t is)) = λ t. sized-in t is p (k .eight) in
+    let body : (t : MainType) → has t is ≡ true → Sized 8 (bytesIn (bodyIn t is)) = λ t. sized-in t is p (k .all64Bits) in
     subst Permitted (k .meaning)
     (record {
       subtype = subtype-allowed (setIn is) (subtypeIn SEMANTIC is) (subtypeIn CONTENT is) (subtype-in SEMANTIC (λ s l. refl) is p) (subtype-in CONTENT (λ s l. refl) is p);

@@ -7,7 +7,7 @@ use lib.ListN.{length}
 use Rattle.iscc.specs.Permitted.{MainType, META, SEMANTIC, CONTENT, DATA, INSTANCE, ISCC, ID, isUnit, setOf, unitCount, permits, bodyBytes}
 use Rattle.iscc.specs.Meaning.{Meaning, unit, composite, Sized, Permitted}
 use Rattle.iscc.specs.Item.{Item, compositeOf, meaningAs, meaningOf, unitLengthNumber, itemOf}
-use Rattle.iscc.proofs.Permitted.{Small, small, unit-or-composite, lengthNumber-back, set-back, number-back, composite-permits, permits-composite}
+use Rattle.iscc.proofs.Permitted.{Small, small, unit-or-composite, unitLengthNumber-back, set-back, number-back, composite-permits, permits-composite}
 use Rattle.iscc.proofs.Cut.{cut-flatten, flatten-sized, length-cut, sized-cut, flatten-cut}
 use Rattle.iscc.proofs.Item.{PermittedItem}
 
@@ -31,7 +31,7 @@ meaning-back (composite s v units bodies) p = rw (set-back units, ← p .count, 
 pub item-permitted : (m : Meaning) → Permitted m → PermittedItem (itemOf m)
 unfolding itemOf bodyBytes
 item-permitted (unit m s v body) p =
-    let e : unitLengthNumber m (length body) ≡ p .lengthNumber = ap (unitLengthNumber m) (p .sized .0) ∙ lengthNumber-back m s (p .lengthNumber) (p .single) in
+    let e : unitLengthNumber m (length body) ≡ p .lengthNumber = ap (unitLengthNumber m) (p .sized .0) ∙ unitLengthNumber-back m s (p .lengthNumber) (p .single) in
     record { header = rw e (p .header); body = (rw e (p .sized .0), p .sized .1) }
 item-permitted (composite s v units bodies) p =
     record { header = composite-permits s v units (p .version) (p .subtype); body = rw (set-back units, ← p .count) (flatten-sized 8 bodies (p .sized)) }
@@ -73,7 +73,7 @@ module _ (s v l : ℕ) (body : List ℕ) where
   back-by : (m : MainType) → Back m
   unfolding meaningAs itemOf
   back-by =
-      unit-or-composite Back (λ m u h z. rw (unit-means m s v l body u, z .0, lengthNumber-back m s l u)) (composite-back s v l body)
+      unit-or-composite Back (λ m u h z. rw (unit-means m s v l body u, z .0, unitLengthNumber-back m s l u)) (composite-back s v l body)
 
 pub meant-item : (i : Item) → PermittedItem i → Permitted (meaningOf i)
 meant-item i p = meant-by (i .subtype) (i .version) (i .lengthNumber) (i .body) (i .mainType) (p .header) (p .body)

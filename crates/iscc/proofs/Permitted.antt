@@ -79,19 +79,25 @@ subtype-small l s e =
     (λ _ b. let x : s ≡ 6 = eqb-true s 6 b in omega arith)
     (λ _ b. let x : s ≤ 4 = leb-true s 4 b in omega arith))
 
+-- tests of a row: what they let through is at most 7
+is-small : (n k : ℕ) → k ≤ 7 → eqb n k ≡ true → n ≤ 7
+is-small n k h e = omega (arith, eqb-true n k e)
+
+most-small : (n k : ℕ) → k ≤ 7 → leb n k ≡ true → n ≤ 7
+most-small n k h e = omega (arith, leb-true n k e)
+
+both-small : {s l : ℕ} {p q : Bool} → (p ≡ true → s ≤ 7) → (q ≡ true → l ≤ 7) → p && q ≡ true → (s ≤ 7) × (l ≤ 7)
+both-small {s} {l} {p} {q} f g e = let w = both-true p q e in (f (w .0), g (w .1))
+
 row-small : (m : MainType) (s l : ℕ) → row m s l ≡ true → (s ≤ 7) × (l ≤ 7)
 unfolding row
-row-small META s l e = let p = both-true (eqb s 0) (leb l 7) e in let a : s ≡ 0 = eqb-true s 0 (p .0) in (omega arith, leb-true l 7 (p .1))
-row-small SEMANTIC s l e = let p = both-true (leb s 4) (leb l 7) e in let a : s ≤ 4 = leb-true s 4 (p .0) in (omega arith, leb-true l 7 (p .1))
-row-small CONTENT s l e = let p = both-true (leb s 4) (leb l 7) e in let a : s ≤ 4 = leb-true s 4 (p .0) in (omega arith, leb-true l 7 (p .1))
-row-small DATA s l e = let p = both-true (eqb s 0) (leb l 7) e in let a : s ≡ 0 = eqb-true s 0 (p .0) in (omega arith, leb-true l 7 (p .1))
-row-small INSTANCE s l e = let p = both-true (eqb s 0) (leb l 7) e in let a : s ≡ 0 = eqb-true s 0 (p .0) in (omega arith, leb-true l 7 (p .1))
-row-small ISCC s l e = let p = both-true (compositeSubtype l s) (leb l 7) e in (let a : s ≤ 6 = subtype-small l s (p .0) in omega arith, leb-true l 7 (p .1))
-row-small ID s l e =
-    let p = both-true (leb s 5) (leb l 4) e in
-    let a : s ≤ 5 = leb-true s 5 (p .0) in
-    let b : l ≤ 4 = leb-true l 4 (p .1) in
-    (omega arith, omega arith)
+row-small META s l = both-small (is-small s 0 (lit≤ tt)) (most-small l 7 (lit≤ tt))
+row-small SEMANTIC s l = both-small (most-small s 4 (lit≤ tt)) (most-small l 7 (lit≤ tt))
+row-small CONTENT s l = both-small (most-small s 4 (lit≤ tt)) (most-small l 7 (lit≤ tt))
+row-small DATA s l = both-small (is-small s 0 (lit≤ tt)) (most-small l 7 (lit≤ tt))
+row-small INSTANCE s l = both-small (is-small s 0 (lit≤ tt)) (most-small l 7 (lit≤ tt))
+row-small ISCC s l = both-small (λ (a : compositeSubtype l s ≡ true). omega (arith, subtype-small l s a)) (most-small l 7 (lit≤ tt))
+row-small ID s l = both-small (most-small s 5 (lit≤ tt)) (most-small l 4 (lit≤ tt))
 
 pub small : (m : MainType) (s v l : ℕ) → permits m s v l ≡ true → Small s v l
 small m s v l e =
@@ -100,15 +106,15 @@ small m s v l e =
     record { subtype = r .0; version = eqb-true v 0 (p .0); lengthNumber = r .1 }
 
 -- a unit's length number comes back from its body's length
-pub lengthNumber-back : (m : MainType) (s l : ℕ) → isUnit m ≡ true → unitLengthNumber m (bodyBytes m s l) ≡ l
+pub unitLengthNumber-back : (m : MainType) (s l : ℕ) → isUnit m ≡ true → unitLengthNumber m (bodyBytes m s l) ≡ l
 unfolding unitLengthNumber bodyBytes
-lengthNumber-back META s l u = omega arith
-lengthNumber-back SEMANTIC s l u = omega arith
-lengthNumber-back CONTENT s l u = omega arith
-lengthNumber-back DATA s l u = omega arith
-lengthNumber-back INSTANCE s l u = omega arith
-lengthNumber-back ISCC s l u = cc
-lengthNumber-back ID s l u = omega arith
+unitLengthNumber-back META s l u = omega arith
+unitLengthNumber-back SEMANTIC s l u = omega arith
+unitLengthNumber-back CONTENT s l u = omega arith
+unitLengthNumber-back DATA s l u = omega arith
+unitLengthNumber-back INSTANCE s l u = omega arith
+unitLengthNumber-back ISCC s l u = cc
+unitLengthNumber-back ID s l u = omega arith
 
 -- what holds of each of the eight sets holds of any
 each-set {ℓ} : (P : Set → Type ℓ) → P (setOf 0) → P (setOf 1) → P (setOf 2) → P (setOf 3) → P (setOf 4) → P (setOf 5) → P (setOf 6) → P (setOf 7) → (u : Set) → P u

@@ -113,7 +113,7 @@ module _ (s v : ℕ) (u : Set) (bodies : List (List ℕ)) (p : Permitted (compos
   record Part (i : Item) : Type 0 where
     pub permitted : PermittedItem i
     pub joins : joinable i ≡ true
-    pub eight : is64Bits i ≡ true
+    pub has64Bits : is64Bits i ≡ true
     pub bears : Bears s i
 
   abbrev IsPart : MainType → Type 0
@@ -121,7 +121,7 @@ module _ (s v : ℕ) (u : Set) (bodies : List (List ℕ)) (p : Permitted (compos
 
   part : (m : MainType) → joinable (unitWith s m []) ≡ true → bodyBytes m (cond (takesSubtype m) s 0) 1 ≡ 8 → row m (cond (takesSubtype m) s 0) 1 ≡ true → IsPart m
   part m j n r body z =
-      record { permitted = record { header = r; body = (z .0 ∙ sym n, z .1) }; joins = j; eight = eq-eqb (length body) 8 (z .0); bears = λ h. rw h }
+      record { permitted = record { header = r; body = (z .0 ∙ sym n, z .1) }; joins = j; has64Bits = eq-eqb (length body) 8 (z .0); bears = λ h. rw h }
 
   low : (u .semantic || u .content) ≡ true → leb s 4 && leb 1 7 ≡ true
   low h = rw (le-leb s 4 (subtype-low s u (p .subtype) h))
@@ -171,7 +171,7 @@ module _ (s v : ℕ) (u : Set) (bodies : List (List ℕ)) (p : Permitted (compos
       let b : bodiesIn (unitTypes (setIn units)) units ≡ bodies =
       ap (λ (ms : List MainType). bodiesIn ms units) (ap unitTypes set-is ∙ sym units-types) ∙ bodies-back units others ∙ units-bodies in
       let j : every joinable units ≡ true = every-all joinable units (all-imp Part (λ i k. k .joins) units units-parts) in
-      let e : every is64Bits units ≡ true = every-all is64Bits units (all-imp Part (λ i k. k .eight) units units-parts) in
+      let e : every is64Bits units ≡ true = every-all is64Bits units (all-imp Part (λ i k. k .has64Bits) units units-parts) in
       rw (j, e, others, d, bears-all s units bears, subtype-is, b, set-is)
 
 -- ---- the laws of split
@@ -227,4 +227,4 @@ join-makes bs out k e =
     let q = answered (joinedMeaning (r .0)) (λ m. accept (itemBytes (itemOf m))) (r .2) in
     let p : Permitted (q .0) = joined-permitted (r .0) (q .0) (items-read bs (r .0) k (r .1) .permitted) (q .1) in
     subst (JoinBack bs) (accept-inj (q .2))
-    (record { items = r .0; from = r .1; meaning = q .0; made = q .1; permitted = p; read = read-one (itemOf (q .0)) (item-permitted (q .0) p); bytes = refl })
+    (record { items = r .0; from = r .1; meaning = q .0; joins = q .1; permitted = p; read = read-one (itemOf (q .0)) (item-permitted (q .0) p); bytes = refl })

@@ -13,7 +13,7 @@ use borrow.Author.Tests.{lt-ltb, le-ltb, le-leb, lt-leb, ltb-true, leb-true}
 use Rattle.iscc.specs.Answer.{accept, refuse, _>>_, _otherwise_}
 use Rattle.iscc.specs.Refusals.{badHeader}
 use Rattle.iscc.specs.Digits.{digits, value, Below}
-use Rattle.iscc.specs.Varnibble.{firstOf, prefixOf, rowOf, rowBy, varnibble, Parsed, readVarnibble}
+use Rattle.iscc.specs.Varnibble.{firstOf, prefixOf, rowOf, rowBy, varnibble, Parsed, parsed, readVarnibble}
 use Rattle.iscc.proofs.Digits.{length-digits, digits-below, value-digits, digits-value, value-lt, below-take}
 use Rattle.iscc.proofs.Answer.{passed, never, Tested}
 
@@ -46,9 +46,6 @@ length-varnibble n = length-digits 4 (rowOf n) _
 pub varnibble-below : (n : ℕ) → Below 16 (varnibble n)
 unfolding varnibble
 varnibble-below n = digits-below 4 (rowOf n) _
-
-abbrev pub parsed : {A : Type 0} → A → ℕ → Parsed A
-parsed n k = record { result = n; used = k }
 
 -- the row of a first nibble
 by-1 : {h : ℕ} → h < 8 → rowBy h ≡ 1

@@ -15,8 +15,8 @@ use Rattle.iscc.specs.Lists.{All, Reordered}
 use Rattle.iscc.specs.Digits.{Below, toDigits, spareCount, fromDigits}
 use Rattle.iscc.specs.Alphabet.{upper, encode, decode}
 use Rattle.iscc.specs.Base32.{base32, readBase32, writeBase32}
-use Rattle.iscc.specs.Varnibble.{Parsed, varnibble, readVarnibble}
-use Rattle.iscc.specs.Header.{Header, headerBytes, readHeader, writeHeader}
+use Rattle.iscc.specs.Varnibble.{Parsed, parsed, varnibble, readVarnibble}
+use Rattle.iscc.specs.Header.{Header, Writable, headerBytes, readHeader, writeHeader}
 use Rattle.iscc.specs.Permitted.{Set, unitTypes}
 use Rattle.iscc.specs.Meaning.{Meaning, composite, Permitted}
 use Rattle.iscc.specs.Item.{Item, headerOf, itemBytes, readItem, readOne, unitBytes, writeUnit, meaningOf, itemOf}
@@ -59,14 +59,6 @@ pub record Demand1 : Type 1 where
   pub readCodeArea : (t area : List ℕ) → Kept (readCode t (length area)) area
   pub writeTextArea : (bs area : List ℕ) → Below 256 bs → Kept (writeText bs (length area)) area
 
--- a result, and how many bytes or nibbles it took
-abbrev parsed : {A : Type 0} → A → ℕ → Parsed A
-parsed r n = record { result = r; used = n }
-
--- numbers that varnibbles can write
-abbrev Writable : Header → Type 0
-Writable h = (h .mainType ≤ 4679) × (h .subtype ≤ 4679) × (h .version ≤ 4679) × (h .lengthNumber ≤ 4679)
-
 -- The unit writer's bytes read back, whatever follows: the header that was written, and the body area's first bytes.
 pub record UnitBack (h : Header) (body out rest : List ℕ) : Type 0 where
   pub item : Item
@@ -79,7 +71,7 @@ pub record JoinBack (bs out : List ℕ) : Type 0 where
   pub items : List Item
   pub from : readItems bs ≡ accept items
   pub meaning : Meaning
-  pub made : joinedMeaning items ≡ accept meaning
+  pub joins : joinedMeaning items ≡ accept meaning
   pub permitted : Permitted meaning
   pub read : readOne out ≡ accept (itemOf meaning)
   pub bytes : itemBytes (itemOf meaning) ≡ out

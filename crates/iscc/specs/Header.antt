@@ -1,5 +1,5 @@
 -- Raw headers (source documents 002 and 003): four varnibbles, and a zero nibble if they are odd in number.
-use Prim.Native.Nat.{ℕ, _+_, _*_, _/_, _%_}
+use Prim.Native.Nat.{ℕ, _+_, _*_, _/_, _%_, _≤_}
 use mathlib.Core.Bool.{_||_}
 use mathlib.Core.List.{List, [], _∷_, _++_}
 use lib.ListN.{getD, drop}
@@ -13,6 +13,14 @@ pub record Header : Type 0 where
   pub subtype : ℕ
   pub version : ℕ
   pub lengthNumber : ℕ
+
+-- the header of four numbers
+abbrev pub headerWithNumbers : ℕ → ℕ → ℕ → ℕ → Header
+headerWithNumbers m s v l = record { mainType = m; subtype = s; version = v; lengthNumber = l }
+
+-- four numbers that varnibbles can write
+abbrev pub Writable : Header → Type 0
+Writable h = (h .mainType ≤ 4679) × (h .subtype ≤ 4679) × (h .version ≤ 4679) × (h .lengthNumber ≤ 4679)
 
 -- bytes as nibbles, and nibbles as bytes, with a zero nibble behind an odd last one
 unfoldable pub nibbles : List ℕ → List ℕ
@@ -50,6 +58,6 @@ readHeader bs = do
   (eqb (n % 2) 0 || eqb (getD (nibbles bs) n 0) 0) otherwise badHeader
   accept
       (record {
-        result = record { mainType = a .result; subtype = b .result; version = c .result; lengthNumber = d .result };
+        result = headerWithNumbers (a .result) (b .result) (c .result) (d .result);
         used = (n + 1) / 2;
       })

@@ -7,7 +7,7 @@ use lib.Dec.{leb}
 use Rattle.iscc.specs.Answer.{Answer, accept, _>>=_, _>>_, _otherwise_, into}
 use Rattle.iscc.specs.Refusals.{notPermitted, shortBody, bytesLeftOver}
 use Rattle.iscc.specs.Varnibble.{Parsed}
-use Rattle.iscc.specs.Header.{Header, headerBytes, readHeader}
+use Rattle.iscc.specs.Header.{Header, headerWithNumbers, headerBytes, readHeader}
 use Rattle.iscc.specs.Permitted.{MainType, META, SEMANTIC, CONTENT, DATA, INSTANCE, ISCC, ID, number, mainTypeOf, isUnit, Set, setOf, setLengthNumber, unitCount, permits, bodyBytes}
 use Rattle.iscc.specs.Lists.{cut}
 use Rattle.iscc.specs.Meaning.{Meaning, unit, composite}
@@ -20,7 +20,7 @@ pub record Item : Type 0 where
   pub body : List ℕ
 
 abbrev pub headerOf : Item → Header
-headerOf i = record { mainType = number (i .mainType); subtype = i .subtype; version = i .version; lengthNumber = i .lengthNumber }
+headerOf i = headerWithNumbers (number (i .mainType)) (i .subtype) (i .version) (i .lengthNumber)
 
 -- the item of a header, with the name of its main type
 abbrev pub itemWith : MainType → Header → List ℕ → Item

@@ -1,5 +1,5 @@
 -- Document 01, "Labels from both sides of the line": the statements; proofs/Labels.antt computes them.
-use Prim.Native.Nat.{ℕ, _+_}
+use Prim.Native.Nat.{_+_}
 use mathlib.Core.Path.{_≡_}
 use mathlib.Core.Bool.{false}
 use mathlib.Core.List.{[], _∷_, map}
@@ -10,15 +10,12 @@ use Rattle.iscc.specs.Refusals.{refusal}
 use Rattle.iscc.specs.Ascii.{ascii}
 use Rattle.iscc.specs.Digits.{digitCount}
 use Rattle.iscc.specs.Varnibble.{writeVarnibble}
-use Rattle.iscc.specs.Header.{Header, writeHeader, readHeader}
+use Rattle.iscc.specs.Header.{headerWithNumbers, writeHeader, readHeader}
 use Rattle.iscc.specs.Permitted.{ISCC, ID, number, bodyBytes}
 use Rattle.iscc.specs.Item.{readItem, writeUnit}
 use Rattle.iscc.specs.Doors.{intake}
 use Rattle.iscc.specs.Distance.{distance}
 use Rattle.iscc.specs.Lines.{lineProgram}
-
-abbrev header : ℕ → ℕ → ℕ → ℕ → Header
-header m s v l = record { mainType = m; subtype = s; version = v; lengthNumber = l }
 
 -- 0.28125 is 9 times 2 ^ -5
 abbrev nineThirtySeconds : Float
@@ -34,8 +31,8 @@ pub record StarredLabels : Type 0 where
   pub number584 : writeVarnibble 584 ≡ accept (0xe ∷ 0x0 ∷ 0x0 ∷ 0x0 ∷ [])
   pub number4679 : writeVarnibble 4679 ≡ accept (0xe ∷ 0xf ∷ 0xf ∷ 0xf ∷ [])
   pub number4680 : writeVarnibble 4680 ≡ refuse (refusal 17)
-  pub header5500 : writeHeader (header 5 5 0 0) 8 ≡ accept (0x55 ∷ 0x00 ∷ [])
-  pub header8000 : writeHeader (header 8 0 0 0) 8 ≡ accept (0x80 ∷ 0x00 ∷ 0x00 ∷ [])
+  pub header5500 : writeHeader (headerWithNumbers 5 5 0 0) 8 ≡ accept (0x55 ∷ 0x00 ∷ [])
+  pub header8000 : writeHeader (headerWithNumbers 8 0 0 0) 8 ≡ accept (0x80 ∷ 0x00 ∷ 0x00 ∷ [])
   pub padNotZero : readHeader (0x80 ∷ 0x00 ∷ 0x01 ∷ []) ≡ refuse (refusal 7)
   pub firstLine : intake (ascii "GAAW2PRCRS5LNVZV-IAAUVACQKXE3V44W") 73 ≡ accept (ascii "ISCC:KUAG2PRCRS5LNVZVJKAFAVOJXLZZM")
   pub swapped : intake (ascii "IAAUVACQKXE3V44W-GAAW2PRCRS5LNVZV") 73 ≡ accept (ascii "ISCC:KUAG2PRCRS5LNVZVJKAFAVOJXLZZM")
@@ -72,5 +69,5 @@ pub record PinnedDefinitions : Type 0 where
   pub returns : intake (ascii "\rGAAW2PRCRS5LNVZV\r") 73 ≡ accept (ascii "ISCC:GAAW2PRCRS5LNVZV")
   pub feeds : intake (ascii "\nGAAW2PRCRS5LNVZV\n") 73 ≡ accept (ascii "ISCC:GAAW2PRCRS5LNVZV")
   -- ID has subtype 5, and not 6
-  pub id5 : writeUnit (header (number ID) 5 0 0) (ascii "8 bytes.") 10 ≡ accept (0x65 ∷ 0x00 ∷ ascii "8 bytes.")
-  pub id6 : writeUnit (header (number ID) 6 0 0) (ascii "8 bytes.") 10 ≡ refuse (refusal 8)
+  pub id5 : writeUnit (headerWithNumbers (number ID) 5 0 0) (ascii "8 bytes.") 10 ≡ accept (0x65 ∷ 0x00 ∷ ascii "8 bytes.")
+  pub id6 : writeUnit (headerWithNumbers (number ID) 6 0 0) (ascii "8 bytes.") 10 ≡ refuse (refusal 8)

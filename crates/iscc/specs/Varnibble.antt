@@ -43,6 +43,9 @@ pub record Parsed (A : Type 0) : Type 0 where
   pub result : A
   pub used : ℕ
 
+abbrev pub parsed : {A : Type 0} → A → ℕ → Parsed A
+parsed r n = record { result = r; used = n }
+
 unfoldable pub readVarnibble : List ℕ → Answer (Parsed ℕ)
 readVarnibble ns = do
   ltb 0 (length ns) otherwise badHeader

@@ -6,6 +6,7 @@ use lib.ListN.{length}
 use native.Mathlib.Omega.{arith}
 use Rattle.iscc.specs.Answer.{Answer, accept, refuse, areaAfter}
 use Rattle.iscc.specs.Refusals.{Refusal}
+use Rattle.iscc.specs.Header.{headerWithNumbers}
 use Rattle.iscc.specs.Permitted.{mainTypeOf}
 use Rattle.iscc.specs.Permitted as permitted
 use Rattle.iscc.specs.Item.{unitBytes, writeUnit}
@@ -26,7 +27,7 @@ use Rattle.header.specs.Representation.{noFields, headerFields}
 use Rattle.unit.specs.Representation.{unitFields}
 use Rattle.unit.specs.Representation as units
 use Rattle.probe.specs.declared.headers.Fields.{Fields}
-use Rattle.probe.specs.Representation.{headerOf, fieldsAs}
+use Rattle.probe.specs.Representation.{fieldsAs}
 
 pub header-there : (r s : HeaderRead) (h : RawHeader) → r ≡ s → r ≡ header.Header h → fieldsAs (headerFields (header.Header h)) ≡ fieldsAs (headerFields s)
 header-there r s h e f = ap (λ (x : HeaderRead). fieldsAs (headerFields x)) (sym f ∙ e)
@@ -58,21 +59,21 @@ type-number n r m e f = go (mainTypeOf n) refl
     go (refuse p) w = let z : _≡_ {A = ℕ} 0 1 = cc (ap namedAs w) in absurd (omega arith)
 
 module _ (n s v l : ℕ) (body : List ℕ) (area : ℕ) (r : Named) (q : Refusal) (e : r ≡ namedAs (mainTypeOf n)) (f : r ≡ named.Refused q) where
-  refuses : writeUnit (headerOf n s v l) body area ≡ refuse q
+  refuses : writeUnit (headerWithNumbers n s v l) body area ≡ refuse q
   unfolding unitBytes
   refuses = rw (not-named n r q e f)
 
-  pub no-type : _≡_ {A = Outcome} (record { number = q .number; length = 0 }) (outcomeAs (writtenAs (writeUnit (headerOf n s v l) body area)))
+  pub no-type : _≡_ {A = Outcome} (record { number = q .number; length = 0 }) (outcomeAs (writtenAs (writeUnit (headerWithNumbers n s v l) body area)))
   no-type = rw refuses
 
-  pub no-write : (out : List ℕ) → out ≡ areaAfter (writeUnit (headerOf n s v l) body area) out
+  pub no-write : (out : List ℕ) → out ≡ areaAfter (writeUnit (headerWithNumbers n s v l) body area) out
   no-write out = rw refuses
 
 module _ (n s v l : ℕ) (body out : List ℕ) (r : Named) (m : MainType) (e : r ≡ namedAs (mainTypeOf n)) (f : r ≡ named.MainType m) where
   pub by-number : (w : Written) (o : Outcome) → w ≡ writtenAs (writeUnit (units.headerWith m s v l) body (length out)) → o ≡ outcomeAs w
-      → o ≡ outcomeAs (writtenAs (writeUnit (headerOf n s v l) body (length out)))
+      → o ≡ outcomeAs (writtenAs (writeUnit (headerWithNumbers n s v l) body (length out)))
   by-number w o g h = h ∙ ap outcomeAs g ∙ rw (type-number n r m e f)
 
   pub area-by-number : (after : List ℕ) → after ≡ areaAfter (writeUnit (units.headerWith m s v l) body (length out)) out
-      → after ≡ areaAfter (writeUnit (headerOf n s v l) body (length out)) out
+      → after ≡ areaAfter (writeUnit (headerWithNumbers n s v l) body (length out)) out
   area-by-number after g = g ∙ rw (type-number n r m e f)

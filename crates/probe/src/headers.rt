@@ -2,9 +2,9 @@
 ghost use mathlib.Core.Path.{_≡_};
 ghost use lib.ListN.{length};
 ghost use Rattle.iscc.specs.Answer.{areaAfter};
-ghost use Rattle.iscc.specs.Header.{readHeader, writeHeader};
+ghost use Rattle.iscc.specs.Header.{headerWithNumbers, readHeader, writeHeader};
 ghost use Rattle.iscc.specs.Representation.{writtenAs, outcomeAs};
-ghost use Rattle.probe.specs.Representation.{fieldsAs, headerOf};
+ghost use Rattle.probe.specs.Representation.{fieldsAs};
 ghost use Rattle.header.specs.Representation.{headerReadAs, headerFields, noFields};
 use header::Header;
 use header::reader::HeaderRead;
@@ -64,8 +64,8 @@ pub extern "C" fn probe_header_write(
     length_number: u32,
     out: &mut [u8],
 ) -> Outcome
-    ensures answer { λ r. ⌜ r ≡ outcomeAs (writtenAs (writeHeader (headerOf «main_type» subtype version «length_number») (length (now (out .entry))))) ⌝ }
-    ensures area { λ _. ⌜ now (out .exit) ≡ areaAfter (writeHeader (headerOf «main_type» subtype version «length_number») (length (now (out .entry)))) (now (out .entry)) ⌝ }
+    ensures answer { λ r. ⌜ r ≡ outcomeAs (writtenAs (writeHeader (headerWithNumbers «main_type» subtype version «length_number») (length (now (out .entry))))) ⌝ }
+    ensures area { λ _. ⌜ now (out .exit) ≡ areaAfter (writeHeader (headerWithNumbers «main_type» subtype version «length_number») (length (now (out .entry)))) (now (out .entry)) ⌝ }
 {
     let h = Header {
         main_type,

@@ -2,9 +2,10 @@
 ghost use mathlib.Core.Path.{_≡_};
 ghost use lib.ListN.{length};
 ghost use Rattle.iscc.specs.Answer.{areaAfter};
+ghost use Rattle.iscc.specs.Header.{headerWithNumbers};
 ghost use Rattle.iscc.specs.Item.{readItem, writeUnit};
 ghost use Rattle.iscc.specs.Representation.{writtenAs, outcomeAs};
-ghost use Rattle.probe.specs.Representation.{fieldsAs, headerOf};
+ghost use Rattle.probe.specs.Representation.{fieldsAs};
 ghost use Rattle.unit.specs.Representation.{unitReadAs, unitFields};
 use crate::headers::Fields;
 use iscc::main_type::MainType;
@@ -40,8 +41,8 @@ pub extern "C" fn probe_unit_write(
     body: &[u8],
     out: &mut [u8],
 ) -> Outcome
-    ensures answer { λ r. ⌜ r ≡ outcomeAs (writtenAs (writeUnit (headerOf «main_type» subtype version «length_number») (now (body .entry)) (length (now (out .entry))))) ⌝ }
-    ensures area { λ _. ⌜ now (out .exit) ≡ areaAfter (writeUnit (headerOf «main_type» subtype version «length_number») (now (body .entry)) (length (now (out .entry)))) (now (out .entry)) ⌝ }
+    ensures answer { λ r. ⌜ r ≡ outcomeAs (writtenAs (writeUnit (headerWithNumbers «main_type» subtype version «length_number») (now (body .entry)) (length (now (out .entry))))) ⌝ }
+    ensures area { λ _. ⌜ now (out .exit) ≡ areaAfter (writeUnit (headerWithNumbers «main_type» subtype version «length_number») (now (body .entry)) (length (now (out .entry)))) (now (out .entry)) ⌝ }
 {
     let named = MainType::from_number(main_type);
     match named {

@@ -62,8 +62,8 @@ pub record UnitIs (bs : List ℕ) (u : code.Unit) : Type 0 where
   pub within : u .used ≤ length bs
   pub most : u .used ≤ 42
 
-made : (bs : List ℕ) (g : Parsed Item) → readItem bs ≡ accept g → UnitIs bs (unitAs g)
-made bs g e =
+unit-behind : (bs : List ℕ) (g : Parsed Item) → readItem bs ≡ accept g → UnitIs bs (unitAs g)
+unit-behind bs g e =
     let b : ItemBounds bs g = item-bounds bs g e in
     let n : ℕ = length (g .result .body) in
     let t : typeOf (number (g .result .mainType)) ≡ g .result .mainType = type-number (g .result .mainType) in
@@ -88,7 +88,7 @@ module _ (bs : List ℕ) {r : UnitRead} (er : r ≡ unitReadAs (readItem bs)) wh
       go : (x : Answer (Parsed Item)) → readItem bs ≡ x → UnitIs bs u
       go (accept g) f =
           let s : unitAs g ≡ u = cc (ap unitReadAs f) in
-          subst (UnitIs bs) s (made bs g f)
+          subst (UnitIs bs) s (unit-behind bs g f)
       go (refuse q) f = let z : _≡_ {A = ℕ} 0 1 = cc (ap unitReadAs f) in absurd (omega arith)
 
   pub unit-refused : (q : Refusal) → r ≡ read.Refused q → readItem bs ≡ refuse q

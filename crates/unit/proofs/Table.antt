@@ -1,19 +1,21 @@
 -- The table of permitted headers by the number of a main type.
 use Prim.Native.Nat.{ℕ, zero, suc, _+_, _*_, _<_}
 use mathlib.Core.Path.{_≡_, refl, sym, _∙_}
-use mathlib.Core.Bool.{Bool, true, false, not, _&&_, and-true, and-false}
+use mathlib.Core.Bool.{Bool, true, false, not, _&&_, and-true}
 use native.Mathlib.Omega.{arith}
 use native.Mathlib.Decide.{decLt}
 use lib.Dec.{eqb, leb, ltb}
 use borrow.Author.Tests.{lt-ltb, le-ltb, ne-eqb, eqb-true, eqb-false, lt-leb, not-true, not-false}
-use Rattle.iscc.specs.Permitted.{ISCC, number, typeOf, compositeSubtype, row, setOf, unitCount, bodyBytes}
+use Rattle.iscc.specs.Permitted.{META, SEMANTIC, CONTENT, DATA, INSTANCE, ISCC, ID, number, typeOf, compositeSubtype, row, setOf, unitCount, bodyBytes}
 use Rattle.iscc.specs.Permitted as permitted
 use Rattle.iscc.specs.declared.main_type.MainType.{MainType}
+use Rattle.iscc.proofs.Booleans.{and-last}
 use Rattle.iscc.proofs.Permitted.{number-small, type-number}
 use Rattle.unit.specs.Representation.{inRow, permitsAs}
 
--- the seven numbers
-pub seven : (P : ℕ → Type 0) → P 0 → P 1 → P 2 → P 3 → P 4 → P 5 → P 6 → (n : ℕ) → n < 7 → P n
+-- what holds of each main type's number holds of every number below 7
+pub seven : (P : ℕ → Type 0) → P (number META) → P (number SEMANTIC) → P (number CONTENT) → P (number DATA) → P (number INSTANCE) → P (number ISCC) → P (number ID)
+    → (n : ℕ) → n < 7 → P n
 seven P a b c d e f g zero h = a
 seven P a b c d e f g (suc zero) h = b
 seven P a b c d e f g (suc (suc zero)) h = c
@@ -44,20 +46,21 @@ module _ (k : permitted.MainType) (m : MainType) (s l : ℕ) {t r : Bool} (e : t
   pub row-at-0 : row k s l ≡ (eqb s 0 && leb l 7) → r ≡ (leb s 0 && leb l 7) → r ≡ inRow m s l
   row-at-0 f g = row-at (g ∙ rw (at-most-0 s, f))
 
-none-of-seven : (n : ℕ) → (n ≡ 0 → ⊥) → (n ≡ 1 → ⊥) → (n ≡ 2 → ⊥) → (n ≡ 3 → ⊥) → (n ≡ 4 → ⊥) → (n ≡ 5 → ⊥) → (n ≡ 6 → ⊥) → ltb n 7 ≡ false
+none-of-seven : (n : ℕ) → (n ≡ number META → ⊥) → (n ≡ number SEMANTIC → ⊥) → (n ≡ number CONTENT → ⊥) → (n ≡ number DATA → ⊥) → (n ≡ number INSTANCE → ⊥)
+    → (n ≡ number ISCC → ⊥) → (n ≡ number ID → ⊥) → ltb n 7 ≡ false
 none-of-seven n a b c d e f g =
     elim (decLt n 7) [
       | yes h ↦ absurd (seven (λ k. k ≡ n → ⊥) (λ x. a (sym x)) (λ x. b (sym x)) (λ x. c (sym x)) (λ x. d (sym x)) (λ x. e (sym x)) (λ x. f (sym x)) (λ x. g (sym x)) n h refl)
       | no h ↦ le-ltb n 7 (omega arith)
     ]
 
-pub row-none : (m : MainType) (s l : ℕ) {t₀ t₁ t₂ t₃ t₄ t₅ t₆ : Bool} → t₀ ≡ eqb (m .number) 0 → t₀ ≡ false → t₁ ≡ eqb (m .number) 1 → t₁ ≡ false
-    → t₂ ≡ eqb (m .number) 2 → t₂ ≡ false → t₃ ≡ eqb (m .number) 3 → t₃ ≡ false → t₄ ≡ eqb (m .number) 4 → t₄ ≡ false
-    → t₅ ≡ eqb (m .number) 5 → t₅ ≡ false → t₆ ≡ eqb (m .number) 6 → t₆ ≡ false → false ≡ inRow m s l
+pub row-none : (m : MainType) (s l : ℕ) {t₀ t₁ t₂ t₃ t₄ t₅ t₆ : Bool} → t₀ ≡ eqb (m .number) (number META) → t₀ ≡ false → t₁ ≡ eqb (m .number) (number SEMANTIC) → t₁ ≡ false
+    → t₂ ≡ eqb (m .number) (number CONTENT) → t₂ ≡ false → t₃ ≡ eqb (m .number) (number DATA) → t₃ ≡ false → t₄ ≡ eqb (m .number) (number INSTANCE) → t₄ ≡ false
+    → t₅ ≡ eqb (m .number) (number ISCC) → t₅ ≡ false → t₆ ≡ eqb (m .number) (number ID) → t₆ ≡ false → false ≡ inRow m s l
 unfolding inRow
 row-none m s l a a′ b b′ c c′ d d′ e e′ f f′ g g′ =
     let n : ℕ = m .number in
-    rw (none-of-seven n (is-no n 0 a a′) (is-no n 1 b b′) (is-no n 2 c c′) (is-no n 3 d d′) (is-no n 4 e e′) (is-no n 5 f f′) (is-no n 6 g g′))
+    rw (none-of-seven n (is-no n _ a a′) (is-no n _ b b′) (is-no n _ c c′) (is-no n _ d d′) (is-no n _ e e′) (is-no n _ f f′) (is-no n _ g g′))
 
 -- a composite's row
 module _ (s l : ℕ) where
@@ -74,35 +77,30 @@ module _ (s l : ℕ) where
   composite-other a b g = g ∙ rw (ne-eqb l 0 a, ne-eqb l 4 b)
 
 -- the definition tests the version before the row
-permits-by : (a b c : Bool) → a && (b && c) ≡ (a && c) && b
-permits-by true true c = sym (and-true c)
-permits-by true false c = sym (and-false c)
-permits-by false b c = refl
-
 module _ (m : MainType) (s v l : ℕ) where
   pub permits-not : {r : Bool} → r ≡ inRow m s l → not r ≡ true → false ≡ permitsAs m s v l
   unfolding inRow permitsAs
-  permits-not {r} e n = sym (permits-by (ltb (m .number) 7) (eqb v 0) (row (typeOf (m .number)) s l) ∙ rw (← e, not-true r n))
+  permits-not {r} e n = sym (and-last (ltb (m .number) 7) (eqb v 0) (row (typeOf (m .number)) s l) ∙ rw (← e, not-true r n))
 
   pub permits-version : {r : Bool} → r ≡ inRow m s l → not r ≡ false → eqb v 0 ≡ permitsAs m s v l
   unfolding inRow permitsAs
-  permits-version {r} e n = sym (permits-by (ltb (m .number) 7) (eqb v 0) (row (typeOf (m .number)) s l) ∙ rw (← e, not-false r n))
+  permits-version {r} e n = sym (and-last (ltb (m .number) 7) (eqb v 0) (row (typeOf (m .number)) s l) ∙ rw (← e, not-false r n))
 
 -- the bodies by number
 module _ (n s l : ℕ) {t : Bool} where
-  pub body-composite : (k : ℕ) → t ≡ eqb n 5 → t ≡ true → k ≡ unitCount (setOf l) → k * 8 ≡ bodyBytes (typeOf n) s l
+  pub body-composite : (k : ℕ) → t ≡ eqb n (number ISCC) → t ≡ true → k ≡ unitCount (setOf l) → k * 8 ≡ bodyBytes (typeOf n) s l
   unfolding bodyBytes typeOf
-  body-composite k e h g = rw (is-yes n 5 e h, g)
+  body-composite k e h g = rw (is-yes n (number ISCC) e h, g)
 
-  pub body-id : t ≡ eqb n 6 → t ≡ true → 8 + l ≡ bodyBytes (typeOf n) s l
+  pub body-id : t ≡ eqb n (number ID) → t ≡ true → 8 + l ≡ bodyBytes (typeOf n) s l
   unfolding bodyBytes typeOf
-  body-id e h = rw (is-yes n 6 e h)
+  body-id e h = rw (is-yes n (number ID) e h)
 
-body-rest : (s l n : ℕ) → n < 7 → (n ≡ 5 → ⊥) → (n ≡ 6 → ⊥) → (l + 1) * 4 ≡ bodyBytes (typeOf n) s l
+body-rest : (s l n : ℕ) → n < 7 → (n ≡ number ISCC → ⊥) → (n ≡ number ID → ⊥) → (l + 1) * 4 ≡ bodyBytes (typeOf n) s l
 unfolding bodyBytes typeOf
 body-rest s l =
-    seven (λ n. (n ≡ 5 → ⊥) → (n ≡ 6 → ⊥) → (l + 1) * 4 ≡ bodyBytes (typeOf n) s l)
+    seven (λ n. (n ≡ number ISCC → ⊥) → (n ≡ number ID → ⊥) → (l + 1) * 4 ≡ bodyBytes (typeOf n) s l)
     (λ _ _. refl) (λ _ _. refl) (λ _ _. refl) (λ _ _. refl) (λ _ _. refl) (λ c _. absurd (c refl)) (λ _ d. absurd (d refl))
 
-pub body-other : (n s l : ℕ) {t₅ t₆ : Bool} → n < 7 → t₅ ≡ eqb n 5 → t₅ ≡ false → t₆ ≡ eqb n 6 → t₆ ≡ false → (l + 1) * 4 ≡ bodyBytes (typeOf n) s l
-body-other n s l h c c′ d d′ = body-rest s l n h (is-no n 5 c c′) (is-no n 6 d d′)
+pub body-other : (n s l : ℕ) {t₅ t₆ : Bool} → n < 7 → t₅ ≡ eqb n (number ISCC) → t₅ ≡ false → t₆ ≡ eqb n (number ID) → t₆ ≡ false → (l + 1) * 4 ≡ bodyBytes (typeOf n) s l
+body-other n s l h c c′ d d′ = body-rest s l n h (is-no n (number ISCC) c c′) (is-no n (number ID) d d′)

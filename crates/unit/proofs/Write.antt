@@ -11,8 +11,8 @@ use lib.ListN.{length, take, length-append}
 use lib.Seq.{length-take-le}
 use Rattle.iscc.specs.Answer.{Answer, accept, refuse, _>>_, _otherwise_, areaAfter}
 use Rattle.iscc.specs.Refusals.{notPermitted, shortBody, areaTooShort}
-use Rattle.iscc.specs.Header.{Header, headerBytes, writeHeader}
-use Rattle.iscc.specs.Permitted.{typeOf, mainTypeOf, isUnit, permits, bodyBytes}
+use Rattle.iscc.specs.Header.{Header, headerWithNumbers, headerBytes, writeHeader}
+use Rattle.iscc.specs.Permitted.{ISCC, number, typeOf, mainTypeOf, isUnit, permits, bodyBytes}
 use Rattle.iscc.specs.Item.{unitBytes, writeUnit}
 use Rattle.iscc.specs.Representation.{writtenAs}
 use Rattle.iscc.specs.declared.main_type.MainType.{MainType}
@@ -25,9 +25,9 @@ use Rattle.unit.specs.Representation.{permitsAs, headerWith}
 use Rattle.unit.proofs.Table.{seven, is-yes, is-no}
 
 -- every main type but a composite's is a unit's
-unit-by : (n : ℕ) → n < 7 → (n ≡ 5 → ⊥) → isUnit (typeOf n) ≡ true
+unit-by : (n : ℕ) → n < 7 → (n ≡ number ISCC → ⊥) → isUnit (typeOf n) ≡ true
 unfolding typeOf
-unit-by = seven (λ n. (n ≡ 5 → ⊥) → isUnit (typeOf n) ≡ true) (λ _. refl) (λ _. refl) (λ _. refl) (λ _. refl) (λ _. refl) (λ f. absurd (f refl)) (λ _. refl)
+unit-by = seven (λ n. (n ≡ number ISCC → ⊥) → isUnit (typeOf n) ≡ true) (λ _. refl) (λ _. refl) (λ _. refl) (λ _. refl) (λ _. refl) (λ f. absurd (f refl)) (λ _. refl)
 
 named : (n : ℕ) → n < 7 → mainTypeOf n ≡ accept (typeOf n)
 unfolding mainTypeOf
@@ -65,9 +65,9 @@ module _ (m : MainType) (s v l : ℕ) (body d : List ℕ) where
   abbrev Answers : Written → List ℕ → Type 0
   Answers r e = (r ≡ writtenAs answer) × (e ≡ areaAfter answer d)
 
-  pub write-composite : {t : Bool} → t ≡ eqb (m .number) 5 → t ≡ true → Answers (Refused notPermitted) d
+  pub write-composite : {t : Bool} → t ≡ eqb (m .number) (number ISCC) → t ≡ true → Answers (Refused notPermitted) d
   unfolding unitBytes mainTypeOf typeOf
-  write-composite e h = rw (is-yes (m .number) 5 e h) (refl, refl)
+  write-composite e h = rw (is-yes (m .number) (number ISCC) e h) (refl, refl)
 
   module _ {p : Bool} (ep : p ≡ permitsAs m s v l) where
     not-unit : p ≡ false → unitBytes (headerWith m s v l) body ≡ refuse notPermitted
@@ -83,12 +83,12 @@ module _ (m : MainType) (s v l : ℕ) (body d : List ℕ) where
     pub write-8 : not p ≡ true → Answers (Refused notPermitted) d
     write-8 f = rw (not-unit (not-true p f)) (refl, refl)
 
-    module _ {t : Bool} (et : t ≡ eqb (m .number) 5) (unit : t ≡ false) (ok : not p ≡ false) {k : ℕ} (ek : k ≡ bodyBytes (typeOf (m .number)) s l) where
+    module _ {t : Bool} (et : t ≡ eqb (m .number) (number ISCC)) (unit : t ≡ false) (ok : not p ≡ false) {k : ℕ} (ek : k ≡ bodyBytes (typeOf (m .number)) s l) where
       unit-is : unitBytes (headerWith m s v l) body ≡ (leb k (length body) otherwise shortBody >> accept (headerBytes (headerWith m s v l) ++ take k body))
       unfolding unitBytes
       unit-is =
           let h : m .number < 7 = type-small m s v l ep ok in
-          rw (named (m .number) h, unit-by (m .number) h (is-no (m .number) 5 et unit), both m s v l ep ok .1, ← ek)
+          rw (named (m .number) h, unit-by (m .number) h (is-no (m .number) (number ISCC) et unit), both m s v l ep ok .1, ← ek)
 
       pub write-9 : length body < k → Answers (Refused shortBody) d
       write-9 g = rw (unit-is, lt-leb k (length body) g) (refl, refl)
@@ -108,5 +108,5 @@ module _ (m : MainType) (s v l : ℕ) (body d : List ℕ) where
         write-15 f = rw (bytes-are, size-is, lt-leb (2 + k) (length d) f) (refl, refl)
 
         pub write-ok : {n : ℕ} {e : List ℕ} → 2 + k ≤ length d → n ≡ m .number
-            → e ≡ areaAfter (accept (headerBytes (record { mainType = n; subtype = s; version = v; lengthNumber = l }) ++ take k body)) d → Answers (Length (2 + k)) e
+            → e ≡ areaAfter (accept (headerBytes (headerWithNumbers n s v l) ++ take k body)) d → Answers (Length (2 + k)) e
         write-ok f en h = rw (bytes-are, size-is, le-leb (2 + k) (length d) f) (ap Length (sym size-is), rw en at h)

@@ -6,7 +6,7 @@ use lib.Dec.{ltb}
 use lib.ListN.{length}
 use Rattle.iscc.specs.Answer.{Answer, accept, refuse}
 use Rattle.iscc.specs.Varnibble.{Parsed}
-use Rattle.iscc.specs.Header.{Header}
+use Rattle.iscc.specs.Header.{Header, headerWithNumbers}
 use Rattle.iscc.specs.Permitted.{typeOf, row, permits}
 use Rattle.iscc.specs.Item.{Item}
 use Rattle.iscc.specs.Representation.{mainTypeAs}
@@ -26,7 +26,7 @@ permitsAs m s v l = ltb (m .number) 7 && permits (typeOf (m .number)) s v l
 
 -- the header of a unit to be written
 abbrev pub headerWith : MainType → ℕ → ℕ → ℕ → Header
-headerWith m s v l = record { mainType = m .number; subtype = s; version = v; lengthNumber = l }
+headerWith m s v l = headerWithNumbers (m .number) s v l
 
 -- an item that was read, by where its body stands
 abbrev pub unitAs : Parsed Item → code.Unit

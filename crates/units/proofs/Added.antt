@@ -1,7 +1,7 @@
 -- The numbers of a list with one item more are those that `added` makes.
 use Prim.Native.Nat.{ℕ, suc, _+_, _<_}
 use mathlib.Core.Path.{_≡_, refl, sym, _∙_}
-use mathlib.Core.Bool.{Bool, true, false, cond, not, _&&_}
+use mathlib.Core.Bool.{Bool, true, false, cond, not, _&&_, Bool·not-not}
 use mathlib.Core.Option.{Option, none, some}
 use mathlib.Core.List.{List, [], _∷_, _++_}
 use native.Mathlib.Numerals.{add-one}
@@ -47,12 +47,8 @@ module _ (bs : List ℕ) (is : List Item) (l : Summary) (s : Summarizes bs is l)
   unseen : (m : MainType) → eqb (getD (l .offsets) (number m) 0) 0 ≡ not (has m is)
   unseen m = offset-tells bs (bodyIn m is) (getD (l .offsets) (number m) 0) (s .offsets m)
 
-  not-not : (b : Bool) → not (not b) ≡ b
-  not-not true = refl
-  not-not false = refl
-
   pub any-is : anySubtyped (l .offsets) ≡ subtyped is
-  any-is = rw (unseen SEMANTIC, unseen CONTENT, not-not (has SEMANTIC is), not-not (has CONTENT is))
+  any-is = rw (unseen SEMANTIC, unseen CONTENT, Bool·not-not (has SEMANTIC is), Bool·not-not (has CONTENT is))
 
   -- an item behind, whose body stands at an offset
   module _ (i : Item) (at : ℕ) (h : BodyAt bs (some (i .body)) at) where
@@ -142,11 +138,11 @@ empty-is bs =
       offsets = no-offset;
     }
 
--- what `add` makes of the answers of its calls
-pub add-made : (l : Summary) (m s n at k : ℕ) (j sh : Bool) (nj n64 rp cl st : ℕ) (pl : List ℕ) → k ≡ m → j ≡ isJoinable m
+-- what `add` answers is what `added` says, by the answers of its calls
+pub add-is : (l : Summary) (m s n at k : ℕ) (j sh : Bool) (nj n64 rp cl st : ℕ) (offsets : List ℕ) → k ≡ m → j ≡ isJoinable m
     → nj ≡ advanced (l .«not_joinable») (l .count) j → n64 ≡ advanced (l .«not_64_bits») (l .count) (eqb n 8)
     → rp ≡ advanced (l .repeated) (l .count) (eqb (getD (l .offsets) k 0) 0) → sh ≡ shares l m s → cl ≡ advanced (l .clash) (l .count) sh
-    → st ≡ cond (isSubtyped m) (cond (anySubtyped (l .offsets)) (l .subtype) s) (l .subtype) → pl ≡ withOffset (l .offsets) m at
-    → _≡_ {A = Summary} (record { count = l .count + 1; «not_joinable» = nj; «not_64_bits» = n64; repeated = rp; clash = cl; subtype = st; offsets = pl }) (added l m s n at)
+    → st ≡ cond (isSubtyped m) (cond (anySubtyped (l .offsets)) (l .subtype) s) (l .subtype) → offsets ≡ withOffset (l .offsets) m at
+    → _≡_ {A = Summary} (record { count = l .count + 1; «not_joinable» = nj; «not_64_bits» = n64; repeated = rp; clash = cl; subtype = st; offsets = offsets }) (added l m s n at)
 unfolding added
-add-made l m s n at k j sh nj n64 rp cl st pl e₁ e₂ e₃ e₄ e₅ e₆ e₇ e₈ e₉ = rw (e₃, e₄, e₅, e₇, e₈, e₉, e₂, e₆, e₁)
+add-is l m s n at k j sh nj n64 rp cl st offsets e₁ e₂ e₃ e₄ e₅ e₆ e₇ e₈ e₉ = rw (e₃, e₄, e₅, e₇, e₈, e₉, e₂, e₆, e₁)

@@ -62,8 +62,8 @@ module _ (bs : List ℕ) (is : List Item) (l : Summary) (s : Summarizes bs is l)
   joinable-is : eqb (l .«not_joinable») (l .count) ≡ every joinable is
   joinable-is = rw (s .notJoinable, s .count) (sym (firstNot-end joinable is))
 
-  eight-is : eqb (l .«not_64_bits») (l .count) ≡ every is64Bits is
-  eight-is = rw (s .not64Bits, s .count) (sym (firstNot-end is64Bits is))
+  all64Bits-is : eqb (l .«not_64_bits») (l .count) ≡ every is64Bits is
+  all64Bits-is = rw (s .not64Bits, s .count) (sym (firstNot-end is64Bits is))
 
   once-is : eqb (l .repeated) (l .count) ≡ pairwise otherType is
   once-is = rw (s .repeated, s .count) (sym (firstClash-end otherType is))
@@ -87,31 +87,31 @@ module _ (bs : List ℕ) (is : List Item) (l : Summary) (s : Summarizes bs is l)
   module _ (j : every joinable is ≡ true) where
     by-11 : every is64Bits is ≡ false → Same
     unfolding decided verdictOf verdictDetail compositeFrom
-    by-11 n = rw (joinable-is, j, eight-is, n, s .not64Bits)
+    by-11 n = rw (joinable-is, j, all64Bits-is, n, s .not64Bits)
 
     module _ (e : every is64Bits is ≡ true) where
       by-12 : pairwise otherType is ≡ false → Same
       unfolding decided verdictOf verdictDetail compositeFrom
-      by-12 n = rw (joinable-is, j, eight-is, e, once-is, n, s .repeated)
+      by-12 n = rw (joinable-is, j, all64Bits-is, e, once-is, n, s .repeated)
 
       module _ (o : pairwise otherType is ≡ true) where
         by-data : bodyIn DATA is ≡ none → Same
         unfolding decided verdictOf verdictDetail compositeFrom
-        by-data n = rw (joinable-is, j, eight-is, e, once-is, o, data-is, n)
+        by-data n = rw (joinable-is, j, all64Bits-is, e, once-is, o, data-is, n)
 
         module _ (a : List ℕ) (da : bodyIn DATA is ≡ some a) where
           by-instance : bodyIn INSTANCE is ≡ none → Same
           unfolding decided verdictOf verdictDetail compositeFrom
-          by-instance n = rw (joinable-is, j, eight-is, e, once-is, o, data-is, da, instance-is, n)
+          by-instance n = rw (joinable-is, j, all64Bits-is, e, once-is, o, data-is, da, instance-is, n)
 
           module _ (b : List ℕ) (ins : bodyIn INSTANCE is ≡ some b) where
             by-14 : pairwise sharedSubtype is ≡ false → Same
             unfolding decided verdictOf verdictDetail compositeFrom
-            by-14 n = rw (joinable-is, j, eight-is, e, once-is, o, data-is, da, instance-is, ins, shared-is, n, s .clash)
+            by-14 n = rw (joinable-is, j, all64Bits-is, e, once-is, o, data-is, da, instance-is, ins, shared-is, n, s .clash)
 
             by-none : pairwise sharedSubtype is ≡ true → Same
             unfolding decided verdictOf verdictDetail compositeFrom
-            by-none k = rw (joinable-is, j, eight-is, e, once-is, o, data-is, da, instance-is, ins, shared-is, k)
+            by-none k = rw (joinable-is, j, all64Bits-is, e, once-is, o, data-is, da, instance-is, ins, shared-is, k)
 
   pub decided-is : Same
   decided-is =

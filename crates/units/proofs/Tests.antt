@@ -1,15 +1,13 @@
--- What closes a return against a definition that goes by tests: each test follows from a fact on the way there.
+-- What closes a return of `summary` against its definition: each test follows from a fact on the way there.
 use Prim.Native.Nat.{ℕ, _+_, _≤_}
 use mathlib.Core.Path.{_≡_, refl, sym, _∙_, ap}
-use mathlib.Core.Bool.{Bool, true, false, cond, not, _&&_, _||_}
+use mathlib.Core.Bool.{Bool, true, false, cond, not, _&&_}
 use mathlib.Core.List.{List}
 use lib.ListN.{length, getD, set, List·getD-eq-default}
 use lib.Dec.{eqb}
-use borrow.Author.Tests.{lt-ltb, le-ltb, le-leb, lt-leb, eq-eqb, ne-eqb}
+use borrow.Author.Tests.{eq-eqb, ne-eqb}
 use Rattle.iscc.specs.Permitted.{SEMANTIC, CONTENT, number}
 use Rattle.units.specs.Summary.{advanced, anySubtyped, withOffset}
-
-pub ruleset tests = (lt-ltb, le-ltb, le-leb, lt-leb, eq-eqb, ne-eqb)
 
 pub advance-more : (first count : ℕ) (holds : Bool) → first ≡ count → holds ≡ true → count + 1 ≡ advanced first count holds
 unfolding advanced
@@ -26,30 +24,6 @@ advance-broken first count holds h = rw h (go (eqb first count))
 pub advance-past : (first count : ℕ) (holds : Bool) → (first ≡ count → ⊥) → first ≡ advanced first count holds
 unfolding advanced
 advance-past first count holds n = rw (ne-eqb first count n)
-
--- r and s are what calls said of the tests a and b
-module _ (a b r s : Bool) where
-  pub or-first : r ≡ a → r ≡ true → true ≡ a || b
-  or-first e t = rw (← e, t)
-
-  pub or-second : r ≡ a → r ≡ false → s ≡ b → s ≡ a || b
-  or-second e t f = rw (← e, t, f)
-
-  pub nor-first : r ≡ a → r ≡ true → false ≡ not (a || b)
-  nor-first e t = rw (← e, t)
-
-  pub nor-second : r ≡ a → r ≡ false → s ≡ b → not s ≡ not (a || b)
-  nor-second e t f = rw (← e, t, f)
-
-module _ {A : Type 0} (a b r s : Bool) (x y z : A) where
-  pub cond-both : r ≡ a → r ≡ true → s ≡ b → s ≡ true → x ≡ cond a (cond b x y) z
-  cond-both e t f u = rw (← e, t, ← f, u)
-
-  pub cond-first : r ≡ a → r ≡ true → s ≡ b → s ≡ false → y ≡ cond a (cond b x y) z
-  cond-first e t f u = rw (← e, t, ← f, u)
-
-  pub cond-none : r ≡ a → r ≡ false → z ≡ cond a (cond b x y) z
-  cond-none e t = rw (← e, t)
 
 -- ---- by a main type's number m, which a call gave as r
 

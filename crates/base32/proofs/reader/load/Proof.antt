@@ -9,7 +9,8 @@ use borrow.Author.Needs.{needs}
 use Rattle.iscc.specs.Alphabet.{digitIn}
 use Rattle.iscc.specs.Base32.{base32}
 use Rattle.iscc.proofs.Digits.{below-at}
-use Rattle.iscc.proofs.Groups.{Loaded, loaded-none, loaded-one, loaded-small, map-at}
+use Rattle.iscc.proofs.Lists.{map-at}
+use Rattle.iscc.proofs.Groups.{Loaded, loaded-none, loaded-one, loaded-small}
 use Rattle.base32.proofs.reader.load.Statement.{statement}
 use Rattle.base32.proofs.reader.load.Tie as tie
 
@@ -31,7 +32,7 @@ digit-requires c κs =
     let a = at .before .before .args in
     let t : List ℕ = a .text .now in
     let j : ℕ = a .at + at .loop .i in
-    rw (map-at (digitIn base32) t j (omega arith)) at (below-at 32 (map (digitIn base32) t) j (at .before .before .pre .0) (omega (arith, length-map t (digitIn base32))))
+    rw (map-at (digitIn base32) t j 0 0 (omega arith)) at (below-at 32 (map (digitIn base32) t) j (at .before .before .pre .0) (omega (arith, length-map t (digitIn base32))))
 
 add-number : tie.Need-add-number Inv-loop μ-loop
 add-number c = omega (arith, loaded-small 35 (c .before .before .before .loop .inv .1) (omega arith))
@@ -44,7 +45,7 @@ loop-again c =
     let ds : List ℕ = map (digitIn base32) t in
     let n : length ds ≡ length t = length-map t (digitIn base32) in
     let e : getD (drop (a .at) ds) (at .loop .i) 0 ≡ digitIn base32 (getD t (a .at + at .loop .i) 0) =
-    getD-drop (a .at) ds (at .loop .i) 0 ∙ map-at (digitIn base32) t (a .at + at .loop .i) (omega arith) in
+    getD-drop (a .at) ds (at .loop .i) 0 ∙ map-at (digitIn base32) t (a .at + at .loop .i) 0 0 (omega arith) in
     (omega arith, loaded-one (c .digit .result) (at .loop .inv .1) (omega (arith, length-drop (a .at) ds)) (c .digit .ensures .0 ∙ sym e) (c .digit .ensures .1))
 
 returns : tie.Need-returns Inv-loop μ-loop

@@ -11,7 +11,7 @@ use Rattle.iscc.specs.Digits.{value, spareCount}
 use Rattle.iscc.specs.Alphabet.{digitIn}
 use Rattle.iscc.specs.Base32.{base32}
 use Rattle.iscc.proofs.Digits.{below-at}
-use Rattle.iscc.proofs.Groups.{map-at}
+use Rattle.iscc.proofs.Lists.{map-at}
 use Rattle.base32.proofs.Characters.{last-bits}
 use Rattle.base32.proofs.reader.spare.Statement.{statement}
 use Rattle.base32.proofs.reader.spare.Tie as tie
@@ -41,7 +41,7 @@ digit-requires c κs =
     let b = c .before .before in
     let t : List ℕ = b .before .args .text .now in
     let i : ℕ = length t - 1 in
-    rw (map-at (digitIn base32) t i (omega arith)) at (below-at 32 (map (digitIn base32) t) i (b .before .pre .0) (omega (arith, length-map t (digitIn base32))))
+    rw (map-at (digitIn base32) t i 0 0 (omega arith)) at (below-at 32 (map (digitIn base32) t) i (b .before .pre .0) (omega (arith, length-map t (digitIn base32))))
 
 rem-result : tie.Need-rem-result
 rem-result c =
@@ -57,7 +57,7 @@ returns-2 c =
     let len : length ds ≡ n = length-map t (digitIn base32) in
     let k : n % 8 * 5 % 8 ≡ spareCount 5 n = rest-spare n in
     let l = last-bits 5 (spareCount 5 n) ds (omega arith) (omega (arith, a .pre .1)) in
-    let e : getD ds (n - 1) 0 ≡ c .digit .result = map-at (digitIn base32) t (n - 1) (omega arith) ∙ sym (c .digit .ensures .0) in
+    let e : getD ds (n - 1) 0 ≡ c .digit .result = map-at (digitIn base32) t (n - 1) 0 0 (omega arith) ∙ sym (c .digit .ensures .0) in
     rw (k, one-shifted (spareCount 5 n) (omega (arith, a .pre .1))) (sym (rw (len, e) at l))
 
 pub spare-spec : {M : Type 1} → statement M

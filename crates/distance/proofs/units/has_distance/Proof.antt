@@ -6,7 +6,7 @@ use native.Mathlib.Omega.{arith}
 use borrow.Author.Needs.{needs}
 use borrow.Author.Tests.{ne-eqb}
 use lib.Dec.{eqb}
-use Rattle.iscc.specs.Permitted.{MainType, META, SEMANTIC, CONTENT, number, typeOf}
+use Rattle.iscc.specs.Permitted.{MainType, META, SEMANTIC, CONTENT, DATA, number, typeOf}
 use Rattle.iscc.specs.Distance.{hasDistance}
 use Rattle.iscc.proofs.Permitted.{type-number}
 use Rattle.unit.proofs.Table.{is-yes, is-no}
@@ -17,7 +17,7 @@ compared : (k : MainType) (n : ℕ) {t : Bool} → t ≡ eqb n (number k) → t 
 compared k n e h d = rw (is-yes n (number k) e h, type-number k, d)
 
 -- the other numbers
-last : (n : ℕ) → (n ≡ 0 → ⊥) → (n ≡ 1 → ⊥) → (n ≡ 2 → ⊥) → eqb n 3 ≡ hasDistance (typeOf n)
+last : (n : ℕ) → (n ≡ number META → ⊥) → (n ≡ number SEMANTIC → ⊥) → (n ≡ number CONTENT → ⊥) → eqb n (number DATA) ≡ hasDistance (typeOf n)
 unfolding typeOf
 last zero a b c = absurd (a refl)
 last (suc zero) a b c = absurd (b refl)
@@ -26,11 +26,11 @@ last (suc (suc (suc zero))) a b c = refl
 last (suc (suc (suc (suc zero)))) a b c = refl
 last (suc (suc (suc (suc (suc zero))))) a b c = refl
 last (suc (suc (suc (suc (suc (suc zero)))))) a b c = refl
-last (suc (suc (suc (suc (suc (suc (suc n))))))) a b c = ne-eqb (suc (suc (suc (suc (suc (suc (suc n))))))) 3 (λ e. omega (arith, e))
+last (suc (suc (suc (suc (suc (suc (suc n))))))) a b c = ne-eqb (suc (suc (suc (suc (suc (suc (suc n))))))) (number DATA) (λ e. omega (arith, e))
 
-data-alone : (n : ℕ) {r t₀ t₁ t₂ : Bool} → t₀ ≡ eqb n 0 → t₀ ≡ false → t₁ ≡ eqb n 1 → t₁ ≡ false → t₂ ≡ eqb n 2 → t₂ ≡ false → r ≡ eqb n 3
-    → r ≡ hasDistance (typeOf n)
-data-alone n a a′ b b′ c c′ e = e ∙ last n (is-no n 0 a a′) (is-no n 1 b b′) (is-no n 2 c c′)
+data-alone : (n : ℕ) {r t₀ t₁ t₂ : Bool} → t₀ ≡ eqb n (number META) → t₀ ≡ false → t₁ ≡ eqb n (number SEMANTIC) → t₁ ≡ false
+    → t₂ ≡ eqb n (number CONTENT) → t₂ ≡ false → r ≡ eqb n (number DATA) → r ≡ hasDistance (typeOf n)
+data-alone n a a′ b b′ c c′ e = e ∙ last n (is-no n (number META) a a′) (is-no n (number SEMANTIC) b b′) (is-no n (number CONTENT) c c′)
 
 pub has-distance-spec : {M : Type 1} → statement M
 has-distance-spec =

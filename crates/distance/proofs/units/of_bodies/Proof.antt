@@ -10,12 +10,12 @@ use Rattle.distance.specs.Representation.{distanceAs, measure, measuredA
 use Rattle.distance.proofs.units.of_bodies.Statement.{statement}
 use Rattle.distance.proofs.units.of_bodies.Tie as tie
 
-made : (d n e m : ℕ) (k : Distance) → d ≡ e → n ≡ m → k ≡ distanceAs (measure d n) → _≡_ {A = Measured} (record { number = 0; distance = k }) (measuredAs (accept (measure e m)))
+same-measure : (d n e m : ℕ) (k : Distance) → d ≡ e → n ≡ m → k ≡ distanceAs (measure d n) → _≡_ {A = Measured} (record { number = 0; distance = k }) (measuredAs (accept (measure e m)))
 unfolding measuredAs distanceAnswer
-made d n e m k p q r = rw (r, p, q)
+same-measure d n e m k p q r = rw (r, p, q)
 
 returns : tie.Need-returns
-returns c = made _ _ _ _ _ (c .before .before .differing .ensures .0) (c .before .compared .ensures) (c .new .ensures)
+returns c = same-measure _ _ _ _ _ (c .before .before .differing .ensures .0) (c .before .compared .ensures) (c .new .ensures)
 
 pub of-bodies-spec : {M : Type 1} → statement M
 of-bodies-spec = tie.close (tie.spec (λ c κs. search needs) (λ c κs. search needs) (λ c κs. search needs) returns)

@@ -1,6 +1,6 @@
 -- `padded` meets its contract: each test follows from the branch taken.
 use borrow.Author.Needs.{needs}
-use Rattle.header.proofs.Cases.{tests}
+use Rattle.iscc.proofs.Cases.{tests}
 use Rattle.header.proofs.reader.padded.Statement.{statement}
 use Rattle.header.proofs.reader.padded.Tie as tie
 

@@ -6,11 +6,11 @@ use Rattle.header.specs.Representation.{shortHeader}
 use Rattle.header.proofs.reader.short.Statement.{statement}
 use Rattle.header.proofs.reader.short.Tie as tie
 
-made : (x y a b : ℕ) → x ≡ a → y ≡ b → shortHeader x y ≡ shortHeader a b
-made x y a b e f = rw (e, f)
+same-header : (x y a b : ℕ) → x ≡ a → y ≡ b → shortHeader x y ≡ shortHeader a b
+same-header x y a b e f = rw (e, f)
 
 returns : tie.Need-returns
-returns c = made _ _ _ _ (c .before .wide .ensures .0) (c .wide2 .ensures .0)
+returns c = same-header _ _ _ _ (c .before .wide .ensures .0) (c .wide2 .ensures .0)
 
 pub short-spec : {M : Type 1} → statement M
 short-spec = tie.close (tie.spec (λ c κs. search needs) (λ c κs. search needs) returns)

@@ -1,7 +1,7 @@
 -- `row_by` meets its contract: each test follows from the branch taken.
 use borrow.Author.Needs.{needs}
 use Rattle.iscc.specs.Varnibble.{firstOf, prefixOf, rowBy}
-use Rattle.header.proofs.Cases.{tests}
+use Rattle.iscc.proofs.Cases.{tests}
 use Rattle.header.proofs.rows.row_by.Statement.{statement}
 use Rattle.header.proofs.rows.row_by.Tie as tie
 

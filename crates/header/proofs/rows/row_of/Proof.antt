@@ -2,7 +2,7 @@
 use borrow.Author.Needs.{needs}
 use native.Mathlib.Omega.{arith}
 use Rattle.iscc.specs.Varnibble.{firstOf, prefixOf, rowOf}
-use Rattle.header.proofs.Cases.{tests}
+use Rattle.iscc.proofs.Cases.{tests}
 use Rattle.header.proofs.rows.row_of.Statement.{statement}
 use Rattle.header.proofs.rows.row_of.Tie as tie
 

@@ -1,5 +1,5 @@
 -- `writable` meets its contract: each test follows from the branch taken.
-use Rattle.header.proofs.Cases.{tests}
+use Rattle.iscc.proofs.Cases.{tests}
 use Rattle.header.proofs.writer.writable.Statement.{statement}
 use Rattle.header.proofs.writer.writable.Tie as tie
 

@@ -1,5 +1,5 @@
 -- `at_most` meets its contract: each test follows from the branch taken.
-use Rattle.header.proofs.Cases.{tests}
+use Rattle.iscc.proofs.Cases.{tests}
 use Rattle.unit.proofs.permitted.at_most.Statement.{statement}
 use Rattle.unit.proofs.permitted.at_most.Tie as tie
 

@@ -1,5 +1,5 @@
 -- `add` meets its contract.
-use Rattle.units.proofs.Added.{add-made}
+use Rattle.units.proofs.Added.{add-is}
 use borrow.Author.Needs.{needs}
 use Rattle.units.proofs.summary.add.Statement.{statement}
 use Rattle.units.proofs.summary.add.Tie as tie
@@ -8,7 +8,7 @@ returns : tie.Need-returns
 returns c =
     let b = c .before .before .before .before .before .before in
     let a = b .before .before .before .before in
-    add-made (a .args .list) (a .args .main-type .number) (a .args .subtype) (a .args .size) (a .args .offset) _ _ _ _ _ _ _ _ _
+    add-is (a .args .list) (a .args .main-type .number) (a .args .subtype) (a .args .size) (a .args .offset) _ _ _ _ _ _ _ _ _
     (b .before .before .before .number .ensures) (b .before .is-joinable .ensures) (b .advance .ensures) (c .before .before .before .before .before .advance2 .ensures)
     (c .before .before .before .before .advance3 .ensures) (c .before .before .before .is-shared .ensures) (c .before .before .advance4 .ensures)
     (c .before .subtype-after .ensures) (c .with-offset .ensures)

@@ -1,5 +1,5 @@
 -- `is_joinable` meets its contract.
-use Rattle.units.proofs.Tests.{nor-first, nor-second}
+use Rattle.iscc.proofs.Booleans.{nor-first, nor-second}
 use borrow.Author.Needs.{needs}
 use Rattle.units.proofs.summary.is_joinable.Statement.{statement}
 use Rattle.units.proofs.summary.is_joinable.Tie as tie

@@ -1,5 +1,5 @@
 -- `is_shared` meets its contract.
-use Rattle.units.proofs.Tests.{cond-both, cond-first, cond-none}
+use Rattle.iscc.proofs.Booleans.{cond-both, cond-first, cond-none}
 use Rattle.units.specs.Summary.{shares}
 use borrow.Author.Needs.{needs}
 use Rattle.units.proofs.summary.is_shared.Statement.{statement}

@@ -1,5 +1,5 @@
 -- `is_subtyped` meets its contract.
-use Rattle.units.proofs.Tests.{or-first, or-second}
+use Rattle.iscc.proofs.Booleans.{or-first, or-second}
 use borrow.Author.Needs.{needs}
 use Rattle.units.proofs.summary.is_subtyped.Statement.{statement}
 use Rattle.units.proofs.summary.is_subtyped.Tie as tie

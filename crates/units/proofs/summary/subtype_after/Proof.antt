@@ -1,5 +1,5 @@
 -- `subtype_after` meets its contract.
-use Rattle.units.proofs.Tests.{cond-both, cond-first, cond-none}
+use Rattle.iscc.proofs.Booleans.{cond-both, cond-first, cond-none}
 use borrow.Author.Needs.{needs}
 use Rattle.units.proofs.summary.subtype_after.Statement.{statement}
 use Rattle.units.proofs.summary.subtype_after.Tie as tie
