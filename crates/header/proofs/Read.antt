@@ -12,13 +12,15 @@ use Rattle.iscc.specs.Varnibble.{Parsed, parsed, firstOf, rowBy, readVarnibble}
 use Rattle.iscc.specs.Answer.{Answer, accept, refuse, _>>_, _otherwise_}
 use Rattle.iscc.specs.Refusals.{badHeader}
 use Rattle.iscc.specs.Header.{nibbles, readHeader}
+use Rattle.iscc.specs.Header as iscc
 use Rattle.iscc.proofs.Varnibble.{row-some, read-ones, read-cut, read-here}
 use Rattle.iscc.proofs.Header.{length-nibbles}
 use Rattle.header.specs.declared.reader.Number.{Number}
 use Rattle.header.specs.declared.rows.Row.{Row}
 use Rattle.header.specs.declared.reader.Numbers.{Numbers}
+use Rattle.header.specs.declared.reader.HeaderRead.{HeaderRead}
 use Rattle.header.specs.declared.reader.HeaderRead.the-variants.{Header, Refused}
-use Rattle.header.specs.Representation.{rowAs, numberAs, NumbersIn, headerReadAs}
+use Rattle.header.specs.Representation.{rowAs, numberAs, NumbersIn, headerReadAs, headerFields, fieldsOf}
 
 abbrev none : Number
 none = record { value = 0; width = 0 }
@@ -125,3 +127,10 @@ module _ (bs : List ℕ) (n : Numbers) (f : NumbersIn bs n) where
                 ≡ headerReadAs (readHeader bs)
             unfolding readHeader
             header-good z = rw (first-is, second-is, third-is, fourth-is, ← e, not-false p z)
+
+-- ---- what the answer tells is what the definition's answer tells
+
+pub fields-told : (r : HeaderRead) (x : Answer (Parsed iscc.Header)) → r ≡ headerReadAs x → headerFields r ≡ fieldsOf x
+unfolding fieldsOf
+fields-told r (accept g) e = ap headerFields e
+fields-told r (refuse q) e = ap headerFields e

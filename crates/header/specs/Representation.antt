@@ -42,17 +42,19 @@ pub record Fields : Type 0 where
 abbrev pub noFields : ℕ → Fields
 noFields n = record { number = n; mainType = 0; subtype = 0; version = 0; lengthNumber = 0; used = 0 }
 
+-- a header, and the bytes used
+abbrev pub fieldsWith : iscc.Header → ℕ → Fields
+fieldsWith h n =
+    record { number = 0; mainType = h .mainType; subtype = h .subtype; version = h .version; lengthNumber = h .lengthNumber; used = n }
+
 abbrev pub headerFields : HeaderRead → Fields
-headerFields (read.Header h) =
-    record {
-      number = 0;
-      mainType = h .header .«main_type»;
-      subtype = h .header .subtype;
-      version = h .header .version;
-      lengthNumber = h .header .«length_number»;
-      used = h .used;
-    }
+headerFields (read.Header h) = fieldsWith (headerFrom (h .header)) (h .used)
 headerFields (read.Refused q) = noFields (q .number)
+
+-- the same of the definition's answer
+unfoldable pub fieldsOf : Answer (Parsed iscc.Header) → Fields
+fieldsOf (accept g) = fieldsWith (g .result) (g .used)
+fieldsOf (refuse q) = noFields (q .number)
 
 -- a row of the varnibble table by its count of nibbles
 abbrev pub rowAs : ℕ → Row

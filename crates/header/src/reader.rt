@@ -7,7 +7,7 @@ ghost use lib.ListN.{length, take, drop, getD};
 ghost use Rattle.iscc.specs.Digits.{value};
 ghost use Rattle.iscc.specs.Varnibble.{readVarnibble};
 ghost use Rattle.iscc.specs.Header.{nibbles, readHeader};
-ghost use Rattle.header.specs.Representation.{numberAs, NumbersIn, headerReadAs, shortHeader};
+ghost use Rattle.header.specs.Representation.{numberAs, NumbersIn, headerReadAs, headerFields, fieldsOf, shortHeader};
 use crate::Header;
 use crate::rows;
 use iscc::refusal::Refusal;
@@ -191,7 +191,8 @@ fn short(a: u8, b: u8) -> RawHeader
 
 // The raw header at the front of the bytes, or 7. What follows is not its concern.
 pub fn read(bytes: &[u8]) -> HeaderRead
-    ensures { λ r. ⌜ r ≡ headerReadAs (readHeader (now (bytes .entry))) ⌝ }
+    ensures answer { λ r. ⌜ r ≡ headerReadAs (readHeader (now (bytes .entry))) ⌝ }
+    ensures fields { λ r. ⌜ headerFields r ≡ fieldsOf (readHeader (now (bytes .entry))) ⌝ }
 {
     if 2 <= bytes.len() {
         let a = bytes[0];

@@ -14,7 +14,7 @@ use Rattle.iscc.specs.Header.{readHeader}
 use Rattle.iscc.specs.Header as iscc
 use Rattle.iscc.specs.Permitted.{number, typeOf, mainTypeOf, permits, bodyBytes}
 use Rattle.iscc.specs.Permitted as permitted
-use Rattle.iscc.specs.Item.{readItem}
+use Rattle.iscc.specs.Item.{Item, readItem}
 use Rattle.iscc.specs.Representation.{mainTypeAs, namedAs}
 use Rattle.iscc.specs.declared.main_type.MainType.{MainType}
 use Rattle.iscc.specs.declared.main_type.Named.{Named}
@@ -25,8 +25,9 @@ use Rattle.header.specs.declared.reader.HeaderRead.{HeaderRead}
 use Rattle.header.specs.declared.reader.HeaderRead.the-variants as header
 use Rattle.header.specs.Representation.{headerReadAs}
 use Rattle.header.proofs.Bounds.{parsedFrom, read-as}
+use Rattle.unit.specs.declared.reader.UnitRead.{UnitRead}
 use Rattle.unit.specs.declared.reader.UnitRead.the-variants.{Unit, Refused}
-use Rattle.unit.specs.Representation.{permitsAs, unitReadAs}
+use Rattle.unit.specs.Representation.{permitsAs, unitReadAs, unitFields, itemFieldsOf}
 
 -- what `MainType::from_number` tells
 pub record Known (r : Answer permitted.MainType) (m : MainType) : Type 0 where
@@ -62,6 +63,12 @@ refused-as : (r : Answer (Parsed iscc.Header)) (q : Refusal) → headerReadAs r 
 refused-as (accept g) q e = let z : _≡_ {A = ℕ} 0 1 = cc in absurd (omega arith)
 refused-as (refuse p) q e = let s : p ≡ q = cc in ap refuse s
 
+-- what the answer tells is what the definition's answer tells
+pub fields-told : (r : UnitRead) (x : Answer (Parsed Item)) → r ≡ unitReadAs x → unitFields r ≡ itemFieldsOf x
+unfolding itemFieldsOf
+fields-told r (accept g) e = ap unitFields e
+fields-told r (refuse q) e = ap unitFields e
+
 module _ (bs : List ℕ) {a : HeaderRead} (ea : a ≡ headerReadAs (readHeader bs)) where
   pub header-there : {h : RawHeader} → a ≡ header.Header h → headerReadAs (readHeader bs) ≡ header.Header h
   header-there e = sym ea ∙ e
@@ -69,6 +76,9 @@ module _ (bs : List ℕ) {a : HeaderRead} (ea : a ≡ headerReadAs (readHeader b
   pub header-bad : {q : Refusal} → a ≡ header.Refused q → Refused q ≡ unitReadAs (readItem bs)
   unfolding readItem
   header-bad {q} e = rw (refused-as (readHeader bs) q (sym ea ∙ e))
+
+  pub bad-fields : {q : Refusal} → a ≡ header.Refused q → unitFields (Refused q) ≡ itemFieldsOf (readItem bs)
+  bad-fields {q} e = fields-told (Refused q) (readItem bs) (header-bad e)
 
 -- the reader's cases
 module _ (bs : List ℕ) (h : RawHeader) (e : headerReadAs (readHeader bs) ≡ header.Header h) {a : Named} (ea : a ≡ namedAs (mainTypeOf (h .header .«main_type»))) where

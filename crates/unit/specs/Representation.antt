@@ -8,10 +8,10 @@ use Rattle.iscc.specs.Answer.{Answer, accept, refuse}
 use Rattle.iscc.specs.Varnibble.{Parsed}
 use Rattle.iscc.specs.Header.{Header, headerWithNumbers}
 use Rattle.iscc.specs.Permitted.{typeOf, row, permits}
-use Rattle.iscc.specs.Item.{Item}
+use Rattle.iscc.specs.Item.{Item, headerOf}
 use Rattle.iscc.specs.Representation.{mainTypeAs}
 use Rattle.iscc.specs.declared.main_type.MainType.{MainType}
-use Rattle.header.specs.Representation.{Fields, noFields}
+use Rattle.header.specs.Representation.{Fields, noFields, fieldsWith}
 use Rattle.unit.specs.declared.reader.Unit as code
 use Rattle.unit.specs.declared.reader.UnitRead.{UnitRead}
 use Rattle.unit.specs.declared.reader.UnitRead.the-variants as read
@@ -47,16 +47,13 @@ unitReadAs (refuse q) = read.Refused q
 
 -- document 01's numbers for each case of the readers' answers
 abbrev pub unitFields : UnitRead → Fields
-unitFields (read.Unit u) =
-    record {
-      number = 0;
-      mainType = u .«main_type» .number;
-      subtype = u .subtype;
-      version = u .version;
-      lengthNumber = u .«length_number»;
-      used = u .used;
-    }
+unitFields (read.Unit u) = fieldsWith (headerWith (u .«main_type») (u .subtype) (u .version) (u .«length_number»)) (u .used)
 unitFields (read.Refused q) = noFields (q .number)
+
+-- the same of the definition's answer
+unfoldable pub itemFieldsOf : Answer (Parsed Item) → Fields
+itemFieldsOf (accept g) = fieldsWith (headerOf (g .result)) (g .used)
+itemFieldsOf (refuse q) = noFields (q .number)
 
 -- the answer of the reader of exactly one: it uses all the bytes
 abbrev pub oneReadAs : List ℕ → Answer Item → UnitRead

@@ -4,7 +4,7 @@ ghost use Rattle.iscc.specs.Header.{readHeader};
 ghost use Rattle.iscc.specs.Item.{readItem};
 ghost use Rattle.header.specs.Representation.{headerReadAs};
 ghost use Rattle.header.specs.declared.reader.HeaderRead.the-variants.{Header};
-ghost use Rattle.unit.specs.Representation.{unitReadAs};
+ghost use Rattle.unit.specs.Representation.{unitReadAs, unitFields, itemFieldsOf};
 use crate::permitted;
 use header::reader::HeaderRead;
 use header::reader::RawHeader;
@@ -59,7 +59,8 @@ fn item_of(bytes: &[u8], raw: RawHeader) -> UnitRead
 
 // One unit or composite at the front of the bytes: 7, 8, 9. What follows is not its concern.
 pub fn read(bytes: &[u8]) -> UnitRead
-    ensures { λ r. ⌜ r ≡ unitReadAs (readItem (now (bytes .entry))) ⌝ }
+    ensures answer { λ r. ⌜ r ≡ unitReadAs (readItem (now (bytes .entry))) ⌝ }
+    ensures fields { λ r. ⌜ unitFields r ≡ itemFieldsOf (readItem (now (bytes .entry))) ⌝ }
 {
     let answer = header::reader::read(bytes);
     match answer {

@@ -17,12 +17,12 @@ loop-holds : tie.Need-loop-holds Inv-loop μ-loop
 loop-holds c = starts _ _ (c .empty .ensures)
 
 returns : tie.Need-returns Inv-loop μ-loop
-returns c = refuses _ _ _ (c .before .before .before .before .before .loop .inv) (c .before .before .before .read .ensures) _ (c .before .found .given .1)
+returns c = refuses _ _ _ (c .before .before .before .before .before .loop .inv) (c .before .before .before .read .ensures .0) _ (c .before .found .given .1)
 
 -- what a unit that was found says of this turn
 this : (c : tie.After-found2 Inv-loop μ-loop)
     → Turn (c .before .before .before .before .before .before .before .args .bytes .now) (c .before .before .before .before .loop .list) (c .before .before .before .before .loop .at) (c .found2 .given .0 .0)
-this c = turn _ _ _ (c .before .before .before .before .loop .inv) (c .before .before .read .ensures) _ (c .found2 .given .1)
+this c = turn _ _ _ (c .before .before .before .before .loop .inv) (c .before .before .read .ensures .0) _ (c .found2 .given .1)
 
 long : (c : tie.After-found2 Inv-loop μ-loop) → length (c .before .before .before .before .before .before .before .args .bytes .now) < 2 ^ 64
 long c = omega arith
