@@ -16,7 +16,7 @@ use Rattle.iscc.specs.declared.code.CodeRead.{CodeRead}
 use Rattle.iscc.specs.declared.code.CodeAnswer.the-variants as answers
 use Rattle.iscc.specs.declared.written.Written.{Written}
 use Rattle.iscc.specs.declared.written.Written.the-variants as written
-use Rattle.iscc.proofs.Codes.{zero-filled, code-is, no-code}
+use Rattle.iscc.proofs.Codes.{zero-filled, code-is}
 use Rattle.units.specs.declared.summary.Summary.{Summary}
 use Rattle.units.specs.Reading.{refusedIndex}
 use Rattle.units.specs.Verdict.{verdictDetail}
@@ -96,9 +96,6 @@ unread-coded bs d q j e = rw (e .0, e .1) (refl, refl)
 -- bytes in front of zeros, and how many they are
 value-is : (out a : List ℕ) (n : ℕ) → a ≡ areaAfter (accept out) (replicate 42 0) → n ≡ length out → record { bytes = a; length = n } ≡ codeAs out
 value-is out a n e l = ap₂ (λ (x : List ℕ) (k : ℕ). record { bytes = x; length = k }) (e ∙ zero-filled 42 out) l ∙ code-is out
-
-pub refused-value : (q : Refusal) (k : ℕ) → record { answer = answers.Refused q k; code = record { bytes = replicate 42 0; length = 0 } } ≡ codeReadAs k (refuse q)
-refused-value q k = ap (λ (d : Code). record { answer = answers.Refused q k; code = d }) (sym no-code)
 
 module _ (k : ℕ) (w : Coded) (r : CodeRead) where
   pub area-value : (x : Answer (List ℕ)) → ((out : List ℕ) → x ≡ accept out → length out ≤ 42) → (n : ℕ) (a : List ℕ) → w ≡ codedInto 42 k x

@@ -23,7 +23,7 @@ use Rattle.iscc.specs.declared.tables.UnitSet.{UnitSet}
 use Rattle.iscc.proofs.Header.{length-short}
 use Rattle.iscc.proofs.Lists.{all-at, map-at, zip-at}
 use Rattle.iscc.proofs.Cut.{cut-at}
-use Rattle.iscc.proofs.Permitted.{unit-or-composite, number-type, number-back, set-back, count-most, small, subtype-low, types-count, types-all, type-number}
+use Rattle.iscc.proofs.Permitted.{unit-or-composite, number-type, setLengthNumber-back, set-back, count-most, small, subtype-low, types-count, types-all, type-number}
 use Rattle.iscc.proofs.Item.{PermittedItem}
 use Rattle.iscc.proofs.Items.{sameType-eq}
 use Rattle.iscc.proofs.Split.{units, units-count, one-read}
@@ -151,7 +151,7 @@ module _ (c : Composite) (ok : Sound c) where
   unit-ok i h =
       subst⁻¹ (Ok (c .subtype)) (unit-at set i h)
       (all-at (λ t. Ok (c .subtype) (mainTypeAs t)) (unitTypes set) i ID
-      (all-ok (c .subtype) set (ap (λ (l : ℕ). compositeSubtype l (c .subtype)) (number-back (c .«length_number») (ok .number)) ∙ ok .subtype)) (omega (arith, types-count set)))
+      (all-ok (c .subtype) set (ap (λ (l : ℕ). compositeSubtype l (c .subtype)) (setLengthNumber-back (c .«length_number») (ok .number)) ∙ ok .subtype)) (omega (arith, types-count set)))
 
   pub unit-long : (i : ℕ) → i < unitCount set → length (itemBytes (unitAt c i)) ≡ 10
   unfolding unitAt
@@ -258,7 +258,7 @@ module _ (s v l : ℕ) (body : List ℕ) (p : PermittedItem (record { mainType =
   as-value : compositeAs (compositeOf s v (setOf l) body) ≡ itemValue s l body
   as-value =
       bodies-in s v (setOf l) body
-      ∙ ap (λ (n : ℕ). parts n s (filledBodies (λ i. take 8 (drop (i * 8) body)) (unitCount (setOf l)) 5)) (number-back l small-number)
+      ∙ ap (λ (n : ℕ). parts n s (filledBodies (λ i. take 8 (drop (i * 8) body)) (unitCount (setOf l)) 5)) (setLengthNumber-back l small-number)
 
   bodies-permitted : Permitted (compositeOf s v (setOf l) body)
   unfolding meaningAs

@@ -1,7 +1,7 @@
 // The one code that items laid end to end mean: one item's own bytes, or the bytes of the composite that a list makes.
 ghost use mathlib.Core.Path.{_≡_};
 ghost use lib.ListN.{length};
-ghost use Rattle.iscc.specs.Answer.{accept, refuse, into, areaAfter};
+ghost use Rattle.iscc.specs.Answer.{accept, into, areaAfter};
 ghost use Rattle.iscc.specs.Representation.{codeReadAs};
 ghost use Rattle.iscc.specs.declared.code.CodeAnswer.the-variants as answers;
 ghost use Rattle.iscc.specs.Item.{Item, readOne};
@@ -20,20 +20,6 @@ use units::reader::Reading;
 use units::summary::Summary;
 use units::verdict;
 use units::verdict::Verdict;
-
-// No code, but a refusal and its detail.
-pub fn refused(q: Refusal, detail: usize) -> CodeRead
-    ensures { λ r. ⌜ r ≡ codeReadAs detail (refuse q) ⌝ }
-{
-    let code = Code {
-        bytes: [0; 42],
-        length: 0,
-    };
-    CodeRead {
-        answer: CodeAnswer::Refused(q, detail),
-        code,
-    }
-}
 
 fn accepted(code: Code) -> CodeRead
     ensures { λ r. ⌜ r ≡ record { answer = answers.Accepted; code = code } ⌝ }
@@ -117,6 +103,6 @@ pub fn read(bytes: &[u8]) -> CodeRead
             };
             accepted(code)
         }
-        Coded::Refused(q, detail) => refused(q, detail),
+        Coded::Refused(q, detail) => iscc::code::refused(q, detail),
     }
 }

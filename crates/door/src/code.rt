@@ -17,7 +17,7 @@ fn read_typed(text: &[u8]) -> CodeRead
     let mut bytes = [0u8; 50];
     match payload::reader::read(text, &mut bytes) {
         PayloadAnswer::Length(n) => composite::code::read(&bytes[0..n]),
-        PayloadAnswer::Refused(q, detail) => composite::code::refused(q, detail),
+        PayloadAnswer::Refused(q, detail) => iscc::code::refused(q, detail),
     }
 }
 
@@ -26,7 +26,7 @@ pub fn read(text: &[u8]) -> CodeRead
     ensures { λ r. ⌜ r ≡ codeReadAs (codeDetail (now (text .entry))) (codeBytes (now (text .entry))) ⌝ }
 {
     if payload::reader::LONGEST_TYPED < text.len() {
-        return composite::code::refused(Refusal::LONG_TEXT, 0);
+        return iscc::code::refused(Refusal::LONG_TEXT, 0);
     }
     read_typed(text)
 }

@@ -5,10 +5,10 @@ use mathlib.Core.Logic.{_↔_}
 use mathlib.Core.List.{List, [], _++_}
 use native.Mathlib.Numerals.{unary-clauses}
 use native.Mathlib.Omega.{arith}
-use lib.ListN.{length, getD, take, drop, replicate}
-use lib.Seq.{take-at}
+use lib.ListN.{length, getD, drop, replicate}
 use lib.Dec.{leb}
 use borrow.Author.Tests.{le-leb}
+use Rattle.iscc.specs.Refusals.{Refusal}
 use Rattle.iscc.specs.Answer.{Answer, accept, refuse, Accepted, _>>=_, areaAfter}
 use Rattle.iscc.specs.Lists.{zeroFilled}
 use Rattle.iscc.specs.Digits.{Below}
@@ -17,7 +17,9 @@ use Rattle.iscc.specs.Meaning.{Meaning, Permitted}
 use Rattle.iscc.specs.Item.{Item, itemBytes, itemOf, readOne, meaningOf}
 use Rattle.iscc.specs.Doors.{meaningOfText, textOf, codeBytes, readCode, writeText, intake, strict}
 use Rattle.iscc.specs.Codes.{CodesAndTexts}
-use Rattle.iscc.specs.Representation.{codeAs}
+use Rattle.iscc.specs.Representation.{codeAs, codeReadAs}
+use Rattle.iscc.specs.declared.code.Code.{Code}
+use Rattle.iscc.specs.declared.code.CodeAnswer.the-variants as answers
 use Rattle.iscc.proofs.Answer.{accepted, value-of, passed, answered, accept-inj}
 use Rattle.iscc.proofs.Item.{PermittedItem, length-item, item-most, item-first, item-below}
 use Rattle.iscc.proofs.Meaning.{meaning-back, item-permitted, item-back, meant-item}
@@ -41,14 +43,12 @@ unfolding codeAs
 code-is bs = refl
 
 -- of a refusal
-pub no-code : codeAs [] ≡ record { bytes = replicate 42 0; length = 0 }
+no-code : codeAs [] ≡ record { bytes = replicate 42 0; length = 0 }
 unfolding codeAs zeroFilled
 no-code = refl
 
--- the code's own bytes stand in front
-pub code-front : (bs : List ℕ) → take (length bs) (codeAs bs .bytes) ≡ bs
-unfolding codeAs zeroFilled
-code-front bs = take-at bs (replicate (42 - length bs) 0) (length bs) refl
+pub refused-code : (q : Refusal) (k : ℕ) → record { answer = answers.Refused q k; code = record { bytes = replicate 42 0; length = 0 } } ≡ codeReadAs k (refuse q)
+refused-code q k = ap (λ (d : Code). record { answer = answers.Refused q k; code = d }) (sym no-code)
 
 -- ---- the code of a text, and the text of a code
 
@@ -122,4 +122,4 @@ first-nibble : (bs : List ℕ) (i : Item) → Below 256 bs → readOne bs ≡ ac
 first-nibble bs i b e = let r = one-read bs i b e in ap (λ (l : List ℕ). getD l 0 0 / 16) (sym (r .1)) ∙ item-first i (r .0)
 
 pub codes-and-texts : CodesAndTexts
-codes-and-texts = record { throughCode = through-code; textBack = text-back; codeBack = code-back; sameCode = same-code; firstNibble = first-nibble; size = code-size }
+codes-and-texts = record { throughCode = through-code; textBack = text-back; codeOfText = code-back; sameCode = same-code; firstNibble = first-nibble; size = code-size }

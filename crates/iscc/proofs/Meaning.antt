@@ -7,7 +7,7 @@ use lib.ListN.{length}
 use Rattle.iscc.specs.Permitted.{MainType, META, SEMANTIC, CONTENT, DATA, INSTANCE, ISCC, ID, isUnit, setOf, unitCount, permits, bodyBytes}
 use Rattle.iscc.specs.Meaning.{Meaning, unit, composite, Sized, Permitted}
 use Rattle.iscc.specs.Item.{Item, compositeOf, meaningAs, meaningOf, unitLengthNumber, itemOf}
-use Rattle.iscc.proofs.Permitted.{Small, small, unit-or-composite, unitLengthNumber-back, set-back, number-back, composite-permits, permits-composite}
+use Rattle.iscc.proofs.Permitted.{Small, small, unit-or-composite, unitLengthNumber-back, set-back, setLengthNumber-back, composite-permits, permits-composite}
 use Rattle.iscc.proofs.Cut.{cut-flatten, flatten-sized, length-cut, sized-cut, flatten-cut}
 use Rattle.iscc.proofs.Item.{PermittedItem}
 
@@ -46,7 +46,7 @@ module _ (s v l : ℕ) (body : List ℕ) (p : permits ISCC s v l ≡ true) (z : 
   unfolding compositeOf bodyBytes
   composite-permitted =
       let k : Small s v l = small ISCC s v l p in record {
-        subtype = rw (number-back l (k .lengthNumber)) (permits-composite s v l p);
+        subtype = rw (setLengthNumber-back l (k .lengthNumber)) (permits-composite s v l p);
         version = k .version;
         count = length-cut 8 count body;
         sized = sized-cut 8 count body z;
@@ -54,7 +54,7 @@ module _ (s v l : ℕ) (body : List ℕ) (p : permits ISCC s v l ≡ true) (z : 
 
   composite-back : itemOf (compositeOf s v (setOf l) body) ≡ record { mainType = ISCC; subtype = s; version = v; lengthNumber = l; body = body }
   unfolding itemOf compositeOf bodyBytes
-  composite-back = rw (number-back l (small ISCC s v l p .lengthNumber), flatten-cut 8 count body z)
+  composite-back = rw (setLengthNumber-back l (small ISCC s v l p .lengthNumber), flatten-cut 8 count body z)
 
 -- ---- what a permitted item means is permitted, and the item comes back from it
 

@@ -137,9 +137,9 @@ unfolding setOf sets
 set-back = each-set _ refl refl refl refl refl refl refl refl
 
 -- a length number comes back from its set
-pub number-back : (l : ℕ) → l ≤ 7 → setLengthNumber (setOf l) ≡ l
+pub setLengthNumber-back : (l : ℕ) → l ≤ 7 → setLengthNumber (setOf l) ≡ l
 unfolding setOf sets upTo
-number-back l h = eqb-true (setLengthNumber (setOf l)) l (at 8 (λ k. eqb (setLengthNumber (setOf k)) k) refl l (omega arith))
+setLengthNumber-back l h = eqb-true (setLengthNumber (setOf l)) l (at 8 (λ k. eqb (setLengthNumber (setOf k)) k) refl l (omega arith))
 
 weight-one : (b : Bool) → weight 1 b ≤ 1
 weight-one true = lit≤ tt

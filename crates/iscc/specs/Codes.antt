@@ -17,7 +17,7 @@ pub record CodesAndTexts : Type 0 where
   -- on strict texts the writer undoes the reader,
   pub textBack : (t : List ℕ) (n k : ℕ) → 42 ≤ k → 73 ≤ n → Accepted (strict t) → (readCode t k >>= λ bs. writeText bs n) ≡ accept t
   -- and the reader undoes the writer, which writes strict texts alone
-  pub codeBack : (bs t : List ℕ) (n k : ℕ) → 42 ≤ k → Below 256 bs → writeText bs n ≡ accept t → Accepted (strict t) × (readCode t k ≡ accept bs)
+  pub codeOfText : (bs t : List ℕ) (n k : ℕ) → 42 ≤ k → Below 256 bs → writeText bs n ≡ accept t → Accepted (strict t) × (readCode t k ≡ accept bs)
   -- two texts have the same code exactly when they mean the same
   pub sameCode : (t u bs cs : List ℕ) (m k : Meaning) → meaningOfText t ≡ accept m → meaningOfText u ≡ accept k
       → readCode t 42 ≡ accept bs → readCode u 42 ≡ accept cs → (bs ≡ cs) ↔ (m ≡ k)

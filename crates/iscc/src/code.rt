@@ -1,4 +1,7 @@
 // A code by value: what reads or makes a code answers one, and no caller lends an area for it.
+ghost use mathlib.Core.Path.{_≡_};
+ghost use Rattle.iscc.specs.Answer.{refuse};
+ghost use Rattle.iscc.specs.Representation.{codeReadAs};
 use crate::refusal::Refusal;
 
 // The longest code, a composite of all five units, in bytes.
@@ -20,4 +23,18 @@ pub enum CodeAnswer {
 pub struct CodeRead {
     pub answer: CodeAnswer,
     pub code: Code,
+}
+
+// No code, but a refusal and its detail.
+pub fn refused(q: Refusal, detail: usize) -> CodeRead
+    ensures { λ r. ⌜ r ≡ codeReadAs detail (refuse q) ⌝ }
+{
+    let code = Code {
+        bytes: [0; 42],
+        length: 0,
+    };
+    CodeRead {
+        answer: CodeAnswer::Refused(q, detail),
+        code,
+    }
 }
