@@ -3,6 +3,7 @@ use Prim.Native.Nat.{ℕ, _-_, _≤_, _<_}
 use mathlib.Core.Path.{_≡_, refl, sym, _∙_, ap}
 use mathlib.Core.Bool.{Bool, true, false, cond}
 use mathlib.Core.List.{List}
+use native.Mathlib.Omega.{arith}
 use lib.ListN.{length, take}
 use borrow.Author.Tests.{le-leb, lt-leb}
 use Rattle.iscc.specs.Refusals.{Refusal, areaTooShort, otherText}
@@ -72,12 +73,13 @@ module _ (t : List ℕ) (k : ℕ) (r : CodeRead) (of : r ≡ codeReadAs k (codeB
 
   module _ (found : r .answer ≡ coded.Accepted) (d : List ℕ) (room : 73 ≤ length d) where
     abbrev own : Answer (List ℕ)
-    own = into (length d) (accept (textOfCode (take (r .code .length - 0) (r .code .bytes))))
+    own = into (length d) (accept (textOfCode (take (r .code .length) (r .code .bytes))))
 
     intake-own : own ≡ intake t (length d)
     intake-own =
         let c = code-is t k r of found in
-        text-fits (take (r .code .length - 0) (r .code .bytes)) (length d) (c .1) room ∙ sym (intake-is t (length d) room ∙ ap texted (c .0))
+        let z : r .code .length ≡ r .code .length - 0 = omega arith in
+        ap (λ (n : ℕ). into (length d) (accept (textOfCode (take n (r .code .bytes))))) z ∙ text-fits (take (r .code .length - 0) (r .code .bytes)) (length d) (c .1) room ∙ sym (intake-is t (length d) room ∙ ap texted (c .0))
 
     pub taken-answer : (w : Written) → w ≡ writtenAs own → w ≡ writtenAs (intake t (length d))
     taken-answer w h = h ∙ ap writtenAs intake-own

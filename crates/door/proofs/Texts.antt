@@ -106,6 +106,13 @@ module _ (bs d : List ℕ) (room : 5 ≤ length d) where
           ∙ ap (λ (j : ℕ). (scheme ++ cs) ++ drop j d) (sym m) in
           told d a _ (fitted (length d) (textOfCode bs) (omega (arith, s .0, length-part, text-length bs))) (ap Length (omega (arith, s .1, text-length bs)), z)
 
+-- ---- the text of the first n bytes, as the code hands over a part from its start
+
+pub text-front : (bs d e : List ℕ) (n : ℕ) (w : Written) → Told (into (length d) (accept (textOfCode (take (n - 0) bs)))) d w e → Told (into (length d) (accept (textOfCode (take n bs)))) d w e
+text-front bs d e n w h =
+    let z : n ≡ n - 0 = omega arith in
+    told d e w (ap (λ (m : ℕ). into (length d) (accept (textOfCode (take m bs)))) z) h
+
 -- ---- the text of a code of at most 42 bytes fits 73
 
 pub text-fits : (bs : List ℕ) (area : ℕ) → length bs ≤ 42 → 73 ≤ area → into area (accept (textOfCode bs)) ≡ accept (textOfCode bs)

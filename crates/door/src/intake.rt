@@ -22,9 +22,8 @@ pub fn intake(text: &[u8], out: &mut [u8]) -> Written
     let answer = found.answer;
     match answer {
         CodeAnswer::Accepted => {
-            let bytes = found.code.bytes;
             let length = found.code.length;
-            text::write(&bytes[0..length], out)
+            text::write_front(&found.code.bytes, length, out)
         }
         CodeAnswer::Refused(q, _) => Written::Refused(q),
     }

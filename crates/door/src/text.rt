@@ -2,7 +2,7 @@
 ghost use mathlib.Core.Path.{_≡_};
 ghost use mathlib.Core.List.{_++_};
 ghost use Prim.Native.Nat.{_≤_};
-ghost use lib.ListN.{length, drop};
+ghost use lib.ListN.{length, take, drop};
 ghost use Rattle.iscc.specs.Answer.{accept, areaAfter, into};
 ghost use Rattle.iscc.specs.Doors.{scheme, writeText};
 ghost use Rattle.iscc.specs.Representation.{writtenAs};
@@ -42,6 +42,15 @@ pub(crate) fn write(bytes: &[u8], out: &mut [u8]) -> Written
         }
         Written::Refused(q) => Written::Refused(q),
     }
+}
+
+// The same of the first bytes of a code by value. It is lent, since a copy of what was just written has to wait for it.
+pub(crate) fn write_front(code: &[u8], count: usize, out: &mut [u8]) -> Written
+    requires { ⌜ count ≤ length (now code) ⌝ }
+    ensures answer { λ r. ⌜ r ≡ writtenAs (into (length (now (out .entry))) (accept (textOfCode (take count (now (code .entry)))))) ⌝ }
+    ensures area { λ _. ⌜ now (out .exit) ≡ areaAfter (into (length (now (out .entry))) (accept (textOfCode (take count (now (code .entry)))))) (now (out .entry)) ⌝ }
+{
+    write(&code[0..count], out)
 }
 
 // Writes the text of a code's bytes to the front of the area. Gives 15 where the area is below 73 bytes, whatever the bytes;

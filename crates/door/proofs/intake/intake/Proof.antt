@@ -8,8 +8,8 @@ use Rattle.door.proofs.intake.intake.Tie as tie
 returns : tie.Need-returns
 returns c = taken-short _ _ (c .if1 .taken)
 
-part-write-end : tie.Need-part-write-end
-part-write-end c = search (needs, code-fits)
+write-front-requires : tie.Need-write-front-requires
+write-front-requires c κs = search (needs, code-fits)
 
 returns-2 : tie.Need-returns-2
 returns-2 c = (search taken-answer, search taken-area)
@@ -24,10 +24,7 @@ intake-spec =
     returns
     (λ c κs. search needs)
     (λ c. search needs)
-    (λ c. search needs)
-    (λ c. search needs)
-    part-write-end
-    (λ c κs. search needs)
+    write-front-requires
     (λ c. search needs)
     (λ c. search needs)
     returns-2
