@@ -9,7 +9,6 @@ ghost use Rattle.iscc.specs.Base32.{base32, writeBase32};
 ghost use Rattle.iscc.specs.Digits.{digits, value, digitCount};
 ghost use Rattle.iscc.specs.Representation.{writtenAs};
 use iscc::refusal::Refusal;
-use iscc::tables;
 use iscc::written::Written;
 
 fn wide(byte: u8) -> u64

@@ -15,9 +15,10 @@ use Rattle.iscc.specs.Permitted as permitted
 use Rattle.iscc.specs.Meaning.{Meaning, Sized, Permitted, PermittedComposite}
 use Rattle.iscc.specs.Item.{Item}
 use Rattle.iscc.specs.Items.{hasSubtype, sharedSubtype, bodyIn, subtypeIn, isIn, bytesIn, has, setIn, bodiesIn, subtypeOf}
-use Rattle.iscc.specs.Representation.{mainTypeAs, unitSetAs}
+use Rattle.iscc.specs.Representation.{mainTypeAs}
+use Rattle.tables.specs.Representation.{unitSetAs}
 use Rattle.iscc.specs.declared.main_type.MainType.{MainType}
-use Rattle.iscc.specs.declared.tables.UnitSet.{UnitSet}
+use Rattle.tables.specs.declared.UnitSet.{UnitSet}
 use Rattle.iscc.proofs.Booleans.{both-true}
 use Rattle.iscc.proofs.Lists.{all-at, map-at}
 use Rattle.iscc.proofs.Permitted.{set-back, count-most, types-count, types-all}

@@ -17,9 +17,10 @@ use Rattle.iscc.specs.Meaning.{composite, Permitted}
 use Rattle.iscc.specs.Item.{Item, itemBytes, readOne, unitBytes, writeUnit, compositeOf, meaningAs, meaningOf}
 use Rattle.iscc.specs.Lists.{All}
 use Rattle.iscc.specs.Items.{unit64, unitWith, unitsOf, itemsBytes, splitBytes}
-use Rattle.iscc.specs.Representation.{mainTypeAs, unitSetAs}
+use Rattle.iscc.specs.Representation.{mainTypeAs}
+use Rattle.tables.specs.Representation.{unitSetAs}
 use Rattle.iscc.specs.declared.main_type.MainType as code
-use Rattle.iscc.specs.declared.tables.UnitSet.{UnitSet}
+use Rattle.tables.specs.declared.UnitSet.{UnitSet}
 use Rattle.iscc.proofs.Header.{length-short}
 use Rattle.iscc.proofs.Lists.{all-at, map-at, zip-at}
 use Rattle.iscc.proofs.Cut.{cut-at}

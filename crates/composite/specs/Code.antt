@@ -9,7 +9,7 @@ use Rattle.iscc.specs.Header.{Header, headerBytes}
 use Rattle.iscc.specs.Permitted.{ISCC, number, typeOf, setOf, unitCount, compositeSubtype}
 use Rattle.iscc.specs.Item.{Item, itemBytes}
 use Rattle.iscc.specs.Items.{unit64}
-use Rattle.iscc.specs.Representation.{unitSetAs}
+use Rattle.tables.specs.Representation.{unitSetAs}
 use Rattle.units.specs.Summary.{isSubtyped}
 use Rattle.composite.specs.declared.bodies.Composite.{Composite}
 use Rattle.composite.specs.Bodies.{laid, typeAt}

@@ -10,8 +10,7 @@ ghost use Rattle.composite.specs.Bodies.{filledBodies, parts, typeAt, bo
 use crate::bodies;
 use crate::bodies::Composite;
 use iscc::main_type::MainType;
-use iscc::tables;
-use iscc::tables::UnitSet;
+use tables::UnitSet;
 use units::summary;
 use units::summary::Summary;
 

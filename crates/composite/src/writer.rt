@@ -7,7 +7,8 @@ ghost use lib.ListN.{length, take, drop, getD};
 ghost use Rattle.iscc.specs.Answer.{accept, areaAfter, into};
 ghost use Rattle.iscc.specs.Permitted.{setOf, unitCount};
 ghost use Rattle.iscc.specs.Item.{itemBytes};
-ghost use Rattle.iscc.specs.Representation.{writtenAs, unitSetAs};
+ghost use Rattle.iscc.specs.Representation.{writtenAs};
+ghost use Rattle.tables.specs.Representation.{unitSetAs};
 ghost use Rattle.units.specs.Summary.{isSubtyped};
 ghost use Rattle.composite.specs.Bodies.{laid};
 ghost use Rattle.composite.specs.Code.{Sound, compositeBytes, InComposite, unitOf, unitAt, splitInto};
@@ -15,9 +16,8 @@ use crate::bodies;
 use crate::bodies::Composite;
 use iscc::main_type::MainType;
 use iscc::refusal::Refusal;
-use iscc::tables;
-use iscc::tables::UnitSet;
 use iscc::written::Written;
+use tables::UnitSet;
 
 // The first bodies end to end, at the front of an area.
 fn put_bodies(bodies: [[u8; 8]; 5], count: usize, out: &mut [u8])

@@ -1,18 +1,17 @@
 -- The code's types (src/) as representations of the definitions' values.
 use Prim.Native.Nat.{ℕ}
-use mathlib.Core.List.{List, [], _++_, map}
-use lib.ListN.{length, take, replicate}
+use mathlib.Core.List.{List, []}
+use lib.ListN.{length}
 use Rattle.iscc.specs.Answer.{Answer, accept, refuse}
 use Rattle.iscc.specs.Lists.{zeroFilled}
 use Rattle.iscc.specs.declared.code.Code.{Code}
 use Rattle.iscc.specs.declared.code.CodeAnswer.the-variants as answered
 use Rattle.iscc.specs.declared.code.CodeRead.{CodeRead}
-use Rattle.iscc.specs.Permitted.{number, unitTypes, unitCount}
+use Rattle.iscc.specs.Permitted.{number}
 use Rattle.iscc.specs.Permitted as permitted
 use Rattle.iscc.specs.declared.main_type.MainType.{MainType}
 use Rattle.iscc.specs.declared.main_type.Named.{Named}
 use Rattle.iscc.specs.declared.main_type.Named.the-variants as named
-use Rattle.iscc.specs.declared.tables.UnitSet.{UnitSet}
 use Rattle.iscc.specs.declared.written.Outcome.{Outcome}
 use Rattle.iscc.specs.declared.written.Written.{Written}
 use Rattle.iscc.specs.declared.written.Written.the-variants.{Length, Refused}
@@ -20,10 +19,6 @@ use Rattle.iscc.specs.declared.written.Written.the-variants.{Length, Ref
 -- a main type in the code is its number
 abbrev pub mainTypeAs : permitted.MainType → MainType
 mainTypeAs m = record { number = number m }
-
--- a set of units as the code's table has it: filled up to five
-unfoldable pub unitSetAs : permitted.Set → UnitSet
-unitSetAs s = record { units = take 5 (map mainTypeAs (unitTypes s) ++ replicate 5 (mainTypeAs permitted.ID)); count = unitCount s }
 
 abbrev pub namedAs : Answer permitted.MainType → Named
 namedAs (accept m) = named.MainType (mainTypeAs m)

@@ -6,7 +6,6 @@ ghost use lib.Dec.{leb};
 ghost use Rattle.iscc.specs.Permitted.{ISCC, typeOf, row, bodyBytes};
 ghost use Rattle.unit.specs.Representation.{inRow, permitsAs};
 use iscc::main_type::MainType;
-use iscc::tables;
 
 // Two numbers, each at most its limit.
 fn at_most(subtype: u32, highest: u32, length_number: u32, longest: u32) -> bool

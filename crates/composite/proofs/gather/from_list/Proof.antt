@@ -2,7 +2,7 @@
 use Prim.Native.Nat.{ℕ}
 use mathlib.Core.Path.{_∙_, ap}
 use Rattle.iscc.specs.Permitted.{setOf, setLengthNumber}
-use Rattle.iscc.specs.Representation.{unitSetAs}
+use Rattle.tables.specs.Representation.{unitSetAs}
 use Rattle.composite.specs.Bodies.{parts, setOfOffsets}
 use Rattle.composite.proofs.FromSummary.{units-there, summary-composite}
 use borrow.Author.Needs.{needs}

@@ -2,9 +2,9 @@
 use mathlib.Core.Path.{sym}
 use native.Mathlib.Omega.{arith}
 use borrow.Author.Needs.{needs}
 use Rattle.iscc.proofs.Permitted.{set-past}
-use Rattle.iscc.proofs.tables.row_of.Statement.{statement}
-use Rattle.iscc.proofs.tables.row_of.Tie as tie
+use Rattle.tables.proofs.row_of.Statement.{statement}
+use Rattle.tables.proofs.row_of.Tie as tie
 
 returns-2 : tie.Need-returns-2
 returns-2 c = (omega arith, sym (set-past _ (c .if1 .left)))

@@ -2,10 +2,10 @@
 use mathlib.Core.Path.{_≡_, ap, sym, _∙_}
 use native.Mathlib.Omega.{arith}
 use borrow.Author.Needs.{needs}
 use Rattle.iscc.specs.Permitted.{unitCount, setOf}
 use Rattle.iscc.proofs.Permitted.{count-by-parts}
-use Rattle.iscc.proofs.tables.body_count.Statement.{statement}
-use Rattle.iscc.proofs.tables.body_count.Tie as tie
+use Rattle.tables.proofs.body_count.Statement.{statement}
+use Rattle.tables.proofs.body_count.Tie as tie
 
 returns : tie.Need-returns
 returns c =

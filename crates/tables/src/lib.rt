@@ -1,10 +1,10 @@
 // The two constant tables of document 01: the base32 alphabet and the eight sets of units in a composite.
 ghost use mathlib.Core.Path.{_≡_};
 ghost use Prim.Native.Nat.{_≤_, _<_};
 ghost use Rattle.iscc.specs.Base32.{base32};
 ghost use Rattle.iscc.specs.Permitted.{setOf, unitCount};
-ghost use Rattle.iscc.specs.Representation.{unitSetAs};
-use crate::main_type::MainType;
+ghost use Rattle.tables.specs.Representation.{unitSetAs};
+use iscc::main_type::MainType;
 
 const ALPHABET: [u8; 32] = *b"ABCDEFGHIJKLMNOPQRSTUVWXYZ234567";
 

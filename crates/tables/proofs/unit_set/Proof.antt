@@ -2,13 +2,13 @@
 use Prim.Native.Nat.{ℕ, _≤_}
 use mathlib.Core.Path.{_≡_, sym, ap, subst, _∙_}
 use borrow.Author.Needs.{needs}
-use Rattle.iscc.specs.declared.tables.UnitSet.{UnitSet}
+use Rattle.tables.specs.declared.UnitSet.{UnitSet}
 use Rattle.iscc.specs.Permitted.{sets, setOf, unitTypes}
-use Rattle.iscc.specs.Representation.{unitSetAs}
+use Rattle.tables.specs.Representation.{unitSetAs}
 use Rattle.iscc.proofs.Table.{entry}
 use Rattle.iscc.proofs.Permitted.{count-most}
-use Rattle.iscc.proofs.tables.unit_set.Statement.{statement}
-use Rattle.iscc.proofs.tables.unit_set.Tie as tie
+use Rattle.tables.proofs.unit_set.Statement.{statement}
+use Rattle.tables.proofs.unit_set.Tie as tie
 
 abbrev of : ℕ → UnitSet
 of l = unitSetAs (setOf l)
