@@ -43,7 +43,7 @@ pub record ConsoleDemand3 : Type 0 where
   pub noSecond : (t u : List ℕ) → strictNumber t ≡ 0 → strictNumber u ≡ 0 → meaningOfText t ≡ meaningOfText u → t ≡ u
   -- and intake writes it,
   pub written : (t a : List ℕ) → answerOf t a .number ≡ 0 → (strictNumber (textIn t a) ≡ 0) × (meaningOfText (textIn t a) ≡ meaningOfText t)
-  -- in 01's spelling,
+  -- in the specification's spelling,
   pub spelling : (m : Meaning) (t a : List ℕ) → answerOf t a .number ≡ 0 → meaningOfText t ≡ accept m → textIn t a ≡ scheme ++ encode base32 (itemBytes (itemOf m))
   -- in at most 73 characters; what a text means is permitted.
   pub short : (m : Meaning) (t a : List ℕ) → answerOf t a .number ≡ 0 → meaningOfText t ≡ accept m → Permitted m × (answerOf t a .length ≤ 73)

@@ -2,3 +2,4 @@
 pub mod Representation
 pub mod Numbers
 pub mod Demand3
+pub mod Version

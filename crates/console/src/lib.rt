@@ -3,3 +3,4 @@ pub mod codes;
 pub mod composites;
 pub mod distances;
 pub mod doors;
+pub mod version;
