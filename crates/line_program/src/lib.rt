@@ -1,10 +1,12 @@
-// The line program: lines from standard input, an answer to each on standard output.
+// The line program: lines from standard input, an answer to each on standard output. A read or a write that fails ends it, and is
+// told on standard error.
 ghost use mathlib.Core.Path.{_≡_};
 ghost use mathlib.Core.Bool.{true};
 ghost use Prim.Native.Nat.{_≤_};
 ghost use lib.ListN.{length};
 ghost use Rattle.lines.specs.Feeding.{begunLine, begunAfter, Keeps};
 use iscc::written::Written;
+use libc::STDERR_FILENO;
 use libc::STDIN_FILENO;
 use libc::STDOUT_FILENO;
 
@@ -12,6 +14,15 @@ use libc::STDOUT_FILENO;
 struct Next {
     held: usize,
     more: bool,
+}
+
+// Writes all of the answers, or tells that it cannot.
+fn put(answers: &[u8]) -> bool {
+    if io::write_all(STDOUT_FILENO, answers) {
+        return true;
+    }
+    os::fail(b"intake: cannot write");
+    false
 }
 
 // Answers the lines that end in a piece, and keeps what it has of the next.
@@ -26,7 +37,7 @@ fn answer(line: &mut [u8], held: usize, piece: &[u8]) -> Next
     while at < piece.len() {
         let fed = lines::feed::feed(line, kept, &piece[at..], out);
         let n = fed.written;
-        if !io::write_all(STDOUT_FILENO, &out[0..n]) {
+        if !put(&out[0..n]) {
             return Next {
                 held: 0,
                 more: false,
@@ -41,13 +52,27 @@ fn answer(line: &mut [u8], held: usize, piece: &[u8]) -> Next
     }
 }
 
+// Some editors put a byte order mark in front of a text. It is no character of a code, and nobody sees it: so it is told.
+fn tell_mark(piece: &[u8]) {
+    if piece.len() < 3 {
+        return;
+    }
+    if octets::compare::same(&piece[0..3], b"\xef\xbb\xbf") {
+        io::write_all(
+            STDERR_FILENO,
+            b"intake: hint: the input begins with a byte order mark, which is no part of a code\n",
+        );
+    }
+}
+
 // Reads once and answers what came. A line that a failed read cuts is not answered.
-fn turn(line: &mut [u8], held: usize) -> Next
+fn turn(line: &mut [u8], held: usize, first: bool) -> Next
     requires { ⌜ 1024 ≤ length (now line) ⌝ }
 {
     let mut piece = io::large_buffer();
     let got = libc::read(STDIN_FILENO, &mut piece);
     if got < 0 {
+        os::fail(b"intake: cannot read");
         return Next {
             held: 0,
             more: false,
@@ -57,6 +82,9 @@ fn turn(line: &mut [u8], held: usize) -> Next
         return Next { held, more: false };
     }
     let n = io::count(got, &piece);
+    if first {
+        tell_mark(&piece[..n]);
+    }
     answer(line, held, &piece[..n])
 }
 
@@ -67,7 +95,7 @@ fn answer_all(line: &mut [u8]) -> usize
     let mut held = 0;
     let mut turns = u64::MAX;
     while turns > 0 {
-        let next = turn(line, held);
+        let next = turn(line, held, turns == u64::MAX);
         held = next.held;
         if !next.more {
             return held;
@@ -81,7 +109,7 @@ fn answer_all(line: &mut [u8]) -> usize
 fn answer_last(line: &[u8], held: usize, out: &mut [u8]) {
     match lines::feed::finish(line, held, out) {
         Written::Length(n) => {
-            io::write_all(STDOUT_FILENO, &out[0..n]);
+            put(&out[0..n]);
         }
         Written::Refused(_) => {}
     }

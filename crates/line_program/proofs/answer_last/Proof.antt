@@ -6,8 +6,8 @@ use Rattle.lines.proofs.Pieces.{written-within}
 use Rattle.line_program.proofs.answer_last.Statement.{statement}
 use Rattle.line_program.proofs.answer_last.Tie as tie
 
-part-write-all-end : tie.Need-part-write-all-end
-part-write-all-end c =
+part-put-end : tie.Need-part-put-end
+part-put-end c =
     let f = c .before .before .before .before .before .before in
     let s = f .before .before .before .before in
     written-within (finishing (length (s .args .out .now)) (begunLine (s .args .line .now) (s .args .held))) (s .args .out .now) _ _ _ (f .finish .ensures .0) (f .finish .ensures .1) (c .before .before .n .given .1)
@@ -20,7 +20,7 @@ answer-last-spec =
     (λ c. search needs)
     (λ c. search needs)
     (λ c. search needs)
-    part-write-all-end
+    part-put-end
     (λ c κs. search needs)
     (λ c. search needs)
     (λ c. search needs)
