@@ -10,7 +10,7 @@ abbrev pub checkedAs : Answer Meaning → Checked
 checkedAs (accept m) = Accepted
 checkedAs (refuse q) = Refused q
 
--- its number by document 01: 0 for success
+-- its number by the specification: 0 for success
 abbrev pub checkedNumber : Checked → ℕ
 checkedNumber Accepted = 0
 checkedNumber (Refused q) = q .number

@@ -8,7 +8,7 @@ use iscc::refusal::Refusal;
 use iscc::written::Written;
 use octets::compare;
 
-// A text that is taken, or why it is not. Its number by document 01: `checkedNumber` of specs/Representation.antt.
+// A text that is taken, or why it is not. Its number by the specification: `checkedNumber` of specs/Representation.antt.
 pub enum Checked {
     Accepted,
     Refused(Refusal),

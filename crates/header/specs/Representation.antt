@@ -29,7 +29,7 @@ abbrev pub headerReadAs : Answer (Parsed iscc.Header) → HeaderRead
 headerReadAs (accept g) = read.Header (rawHeaderAs g)
 headerReadAs (refuse q) = read.Refused q
 
--- Document 01's numbers for each case of a reader's answer: its number, the header's four numbers and the bytes used. A refusal
+-- The specification's numbers for each case of a reader's answer: its number, the header's four numbers and the bytes used. A refusal
 -- has its number, and zero for every other.
 pub record Fields : Type 0 where
   pub number : ℕ

@@ -13,7 +13,7 @@ use Rattle.iscc.proofs.Booleans.{beq-true}
 use Rattle.iscc.proofs.Table.{upTo, at}
 use Rattle.iscc.proofs.Alphabet.{Sound}
 
--- 5, as document 01 puts it: 1, 3 or 6 over a multiple of 8
+-- 5, as the specification puts it: 1, 3 or 6 over a multiple of 8
 pub bad-count : (k : ℕ) → ltb (spareCount 5 k) 5 ≡ not (eqb (k % 8) 1 || eqb (k % 8) 3 || eqb (k % 8) 6)
 unfolding spareCount upTo
 bad-count k =

@@ -1,4 +1,4 @@
--- The labels of document 01 hold, by computation.
+-- The labels of the specification hold, by computation.
 use mathlib.Core.Path.{refl}
 use mathlib.Core.List.{flatten}
 use Rattle.iscc.specs.Lists.{every, pairwise, cut, sameBytes}

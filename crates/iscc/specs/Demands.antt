@@ -86,9 +86,9 @@ pub record SplitBack (s v : ℕ) (units : Set) (bodies : List (List ℕ)) : Type
   pub subtypes : map (λ i. i .subtype) items ≡ map (λ m. cond (takesSubtype m) s 0) (unitTypes units)
   pub bodiesIn : map (λ i. i .body) items ≡ bodies
 
--- Demand 2. Everything is read and written as ISO 24138 and RFC 4648 define it, within 01's limits. What is written reads back;
--- what is read and written again is the same bytes (case of base32 letters apart); units laid end to end are read one by one as
--- they went in, and split from a composite in its own order.
+-- Demand 2. Everything is read and written as ISO 24138 and RFC 4648 define it, within the specification's limits. What is written
+-- reads back; what is read and written again is the same bytes (case of base32 letters apart); units laid end to end are read one
+-- by one as they went in, and split from a composite in its own order.
 pub record Demand2 : Type 1 where
   -- what is written reads back, whatever bytes follow
   pub base32Back : (bs : List ℕ) → Below 256 bs → decode base32 (encode base32 bs) ≡ accept bs
@@ -137,7 +137,7 @@ pub record Demand3 : Type 1 where
   pub noSecond : (m : Meaning) (t : List ℕ) → strict t ≡ accept m → t ≡ textOf m
   -- and intake writes it,
   pub written : (m : Meaning) (t a : List ℕ) → 73 ≤ length a → meaningOfText t ≡ accept m → writtenText t a ≡ textOf m
-  -- in 01's spelling,
+  -- in the specification's spelling,
   pub spelling : (m : Meaning) → textOf m ≡ scheme ++ encode base32 (itemBytes (itemOf m))
   -- in at most 73 characters; what a text means is permitted.
   pub short : (t : List ℕ) (m : Meaning) → meaningOfText t ≡ accept m → Permitted m × (length (textOf m) ≤ 73)

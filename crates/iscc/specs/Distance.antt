@@ -1,4 +1,4 @@
--- Document 01, "Distance": n, the shorter body's bits; d, the differing bits among the first n; the ratio d / n.
+-- The specification, "Distance": n, the shorter body's bits; d, the differing bits among the first n; the ratio d / n.
 use Prim.Native.Nat.{ℕ, _+_, _*_, min}
 use mathlib.Core.Bool.{Bool, true, false, cond, _&&_}
 use mathlib.Core.List.{List, [], _∷_, _++_}

@@ -1,4 +1,4 @@
--- Document 01, "Reading text at intake": the text's cleaning, the intake door and the strict door.
+-- The specification, "Reading text at intake": the text's cleaning, the intake door and the strict door.
 use Prim.Native.Nat.{ℕ, _+_}
 use mathlib.Core.Bool.{Bool, true, false, cond, _&&_, _||_}
 use mathlib.Core.List.{List, [], _∷_, _++_, map}

@@ -1,4 +1,4 @@
--- Document 01, "Numbers of refusal and their order": what "given exactly when" means, over any rules in any order. The rules of
+-- The specification, "Numbers of refusal and their order": what "given exactly when" means, over any rules in any order. The rules of
 -- each call, in their order, stand in RefusalOrder.antt.
 use Prim.Native.Nat.{ℕ, _<_}
 use mathlib.Core.Path.{_≡_}

@@ -1,4 +1,4 @@
--- Raw headers (source documents 002 and 003): four varnibbles, and a zero nibble if they are odd in number.
+-- The specification, "Varnibbles and raw headers": raw headers, four varnibbles, and a zero nibble if they are odd in number.
 use Prim.Native.Nat.{ℕ, _+_, _*_, _/_, _%_, _≤_}
 use mathlib.Core.Bool.{_||_}
 use mathlib.Core.List.{List, [], _∷_, _++_}

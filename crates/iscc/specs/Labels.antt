@@ -1,4 +1,4 @@
--- Document 01, "Labels from both sides of the line": the statements; proofs/Labels.antt computes them.
+-- The specification, "Labels": the statements; proofs/Labels.antt computes them.
 use Prim.Native.Nat.{_+_}
 use mathlib.Core.Path.{_≡_}
 use mathlib.Core.Bool.{false}

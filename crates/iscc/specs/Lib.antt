@@ -1,6 +1,6 @@
--- Document 01 as definitions: first what they are written with (refusals by name, answers, lists, text, digits, alphabets, base32),
--- then 01's sections in its order, but the order of refusals behind them, since it is that of every call; then what is promised of
--- them: codes and texts, the demands; then the code's types as their values, and the labels.
+-- The specification, docs/SPECIFICATION.md, as definitions: first what they are written with (refusals by name, answers, lists,
+-- text, digits, alphabets, base32), then its sections in their order, but the order of refusals behind them, since it is that of
+-- every call; then what is promised of them: codes and texts, the demands; then the code's types as their values, and the labels.
 pub mod Refusals
 pub mod Answer
 pub mod Lists

@@ -1,4 +1,4 @@
--- Document 01, "The line program": what it writes for what it reads.
+-- The specification, "The line program": what it writes for what it reads.
 use Prim.Native.Nat.{ℕ, _+_, _/_, _%_}
 use mathlib.Core.Bool.{cond}
 use mathlib.Core.List.{List, [], _∷_, _++_}

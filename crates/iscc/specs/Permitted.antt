@@ -1,4 +1,4 @@
--- Document 01, "Permitted headers and body lengths".
+-- The specification, "Permitted headers and body lengths".
 use Prim.Native.Nat.{ℕ, _+_, _*_}
 use mathlib.Core.Bool.{Bool, true, false, cond, _&&_}
 use mathlib.Core.List.{List, [], _∷_, _++_}

@@ -1,4 +1,4 @@
--- Document 01, "Numbers of refusal and their order": the tests of each call, in their order. `Exactly` says what is made of them.
+-- The specification, "Numbers of refusal and their order": the tests of each call, in their order. `Exactly` says what is made of them.
 use Prim.Native.Nat.{ℕ, zero, suc, _+_, _%_, _^_}
 use mathlib.Core.Bool.{Bool, true, cond, _&&_, _||_}
 use mathlib.Core.List.{List, [], _∷_, _++_, map}
@@ -115,7 +115,7 @@ meaningStages (i ∷ j ∷ is) = listStages (i ∷ j ∷ is)
 abbrev pub areaStages : ℕ → Answer (List ℕ) → List (List Rule)
 areaStages area x = whereAccepted x (λ out. once areaTooShort (leb (length out) area) ∷ [])
 
--- ---- the calls, in the order of 01's section
+-- ---- the calls, in the order of the specification's section
 
 -- "2, 1, 3, 4, 5, 6; then 7, 8, 9 for each unit from the left, all of one unit before the next; then, for two or more items, 10 to 14"
 unfoldable pub doorStages : List ℕ → List (List Rule)

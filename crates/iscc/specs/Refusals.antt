@@ -1,4 +1,4 @@
--- Document 01, "Numbers of refusal and their order": each number of the table, under a name.
+-- The specification, "Numbers of refusal and their order": each number of the table, under a name.
 use Prim.Native.Nat.{ℕ}
 use mathlib.Core.List.{List, [], _∷_}
 use Rattle.iscc.specs.declared.refusal.Refusal as declared

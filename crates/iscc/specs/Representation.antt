@@ -24,7 +24,7 @@ abbrev pub namedAs : Answer permitted.MainType → Named
 namedAs (accept m) = named.MainType (mainTypeAs m)
 namedAs (refuse q) = named.Refused q
 
--- a writer's answer in the code, and its number and length by document 01
+-- a writer's answer in the code, and its number and length by the specification
 abbrev pub writtenAs : Answer (List ℕ) → Written
 writtenAs (accept out) = Length (length out)
 writtenAs (refuse q) = Refused q

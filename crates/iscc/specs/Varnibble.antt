@@ -1,4 +1,4 @@
--- Varnibbles (source documents 002 and 003), by the table's rows: a row is its count of nibbles, 1 to 4.
+-- The specification, "Varnibbles and raw headers": varnibbles, by the table's rows: a row is its count of nibbles, 1 to 4.
 --
 --   prefix bits   nibbles   data bits   numbers
 --   0             1         3           0 to 7

@@ -6,7 +6,7 @@ ghost use Rattle.iscc.specs.Permitted.{mainTypeOf, mainTypes};
 ghost use Rattle.iscc.specs.Representation.{namedAs, mainTypeAs};
 use crate::refusal::Refusal;
 
-// A main type of document 01.
+// A main type of the specification.
 pub struct MainType {
     number: u8,
 }

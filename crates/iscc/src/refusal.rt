@@ -1,4 +1,4 @@
-// Document 01, "Numbers of refusal and their order": each number by name.
+// The specification, "Numbers of refusal and their order": each number by name.
 ghost use mathlib.Core.Path.{_≡_};
 ghost use Rattle.iscc.specs.Refusals.{refusals};
 

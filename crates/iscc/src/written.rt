@@ -3,7 +3,7 @@ ghost use mathlib.Core.Path.{_≡_};
 ghost use Rattle.iscc.specs.Representation.{outcomeAs};
 use crate::refusal::Refusal;
 
-// How many bytes were written, or why none were. Document 01's number and length: `numberIn` and `lengthIn` of specs/Representation.antt.
+// How many bytes were written, or why none were. The specification's number and length: `numberIn` and `lengthIn` of specs/Representation.antt.
 pub enum Written {
     Length(usize),
     Refused(Refusal),

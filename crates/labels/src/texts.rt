@@ -62,13 +62,13 @@ pub fn short() {
     intake(b"   ");
 }
 
-// Documents 002 and 003, the inputs and the example of iscc_normalize.
+// Published by the reference library: the inputs and the example of its iscc_normalize.
 pub fn published() {
     intake(b"MEACB7X7777574L6");
     intake(b"ISCC:MEACB7X7777574L6");
     intake_and(
         b"fcc010001657fe7cafe9791bb",
-        b" (the library takes base16 behind an f; document 01 has base32 only)",
+        b" (the library takes base16 behind an f; the specification has base32 only)",
     );
     intake(b"iscc:maagztfqttvizpjr");
     intake(b"Iscc:Maagztfqttvizpjr");

@@ -49,7 +49,7 @@ pub fn labels() {
     header(0x57, 0);
 }
 
-// Document 003, encode_length: 32, 64, 96 bits; the sets of a composite by number; 64, 72, 80 bits of an ID.
+// Published by the reference library, its encode_length: 32, 64, 96 bits; the sets of a composite by number; 64, 72, 80 bits of an ID.
 pub fn published() {
     header(0, 0);
     header(0, 1);

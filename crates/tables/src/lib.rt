@@ -1,4 +1,4 @@
-// The two constant tables of document 01: the base32 alphabet and the eight sets of units in a composite.
+// The two constant tables of the specification: the base32 alphabet and the eight sets of units in a composite.
 ghost use mathlib.Core.Path.{_≡_};
 ghost use Prim.Native.Nat.{_≤_, _<_};
 ghost use Rattle.iscc.specs.Base32.{base32};

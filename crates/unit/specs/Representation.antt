@@ -45,7 +45,7 @@ abbrev pub unitReadAs : Answer (Parsed Item) → UnitRead
 unitReadAs (accept g) = read.Unit (unitAs g)
 unitReadAs (refuse q) = read.Refused q
 
--- document 01's numbers for each case of the readers' answers
+-- the specification's numbers for each case of the readers' answers
 abbrev pub unitFields : UnitRead → Fields
 unitFields (read.Unit u) = fieldsWith (headerWith (u .«main_type») (u .subtype) (u .version) (u .«length_number»)) (u .used)
 unitFields (read.Refused q) = noFields (q .number)

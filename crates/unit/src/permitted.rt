@@ -1,4 +1,4 @@
-// Document 01, "Permitted headers and body lengths".
+// The specification, "Permitted headers and body lengths".
 ghost use mathlib.Core.Path.{_≡_};
 ghost use Prim.Native.Nat.{_≤_, _<_};
 ghost use mathlib.Core.Bool.{_&&_};
