@@ -1,15 +1,24 @@
 /*
- * The C interface of the console: both doors, the code of a text and the text of a code, join and split, and the distance
- * between two units.
+ * The C interface of the console: both doors, the code of a text and the text of a code, join and
+ * split, and the distance between two units.
  *
- * Link target/staticlib/libconsole.a (`rt staticlib console`). No memory is taken and nothing is kept
- * between calls, so that every entry may run in several threads at once.
+ * Linking. `./install PREFIX` makes the shared and the static library and a pkg-config file:
  *
- * Areas. An area is a pointer and a length in bytes. It must be as long as stated, and an area for writing must not overlap
- * one for reading; nothing else is taken on trust. A null pointer with length 0 is an empty area. Text is bytes: it needs
- * no NUL at its end, and none is written.
+ *   gcc program.c $(pkg-config --cflags --libs iscc)
+ *
+ * Or link the archive itself, target/staticlib/libconsole.a (`rt staticlib console`); it is enough
+ * for everything in this header. The same source gives the same libraries byte for byte, in
+ * whatever folder they are built.
+ *
+ * No memory is taken and nothing is kept between calls, so that every entry may run in several
+ * threads at once.
+ *
+ * Areas. An area is a pointer and a length in bytes. It must be as long as stated, and an area for
+ * writing must not overlap one for reading; nothing else is taken on trust. A null pointer with
+ * length 0 is an empty area. Text is bytes: it needs no NUL at its end, and none is written.
  *   - Areas for reading keep their bytes.
- *   - On success the answer's `length` bytes are written at the start of the output area; the bytes behind them keep theirs.
+ *   - On success the answer's `length` bytes are written at the start of the output area; the bytes
+ *     behind them keep theirs.
  *   - A refusal leaves every byte of the output area, and every other number of the answer is zero.
  */
 #ifndef ISCC_H
@@ -22,29 +31,80 @@
 extern "C" {
 #endif
 
-/* What a call answers: ISCC_OK or the number of a refusal. No call gives all of them; each names its own below. */
+/*
+ * The version of this header. The shared library's name has the major version, so that a program
+ * built for one does not start with another.
+ */
+#define ISCC_VERSION_MAJOR 0
+#define ISCC_VERSION_MINOR 1
+#define ISCC_VERSION_PATCH 0
+#define ISCC_VERSION_TEXT "0.1.0"
+#define ISCC_VERSION \
+    (ISCC_VERSION_MAJOR * 65536 + ISCC_VERSION_MINOR * 256 + ISCC_VERSION_PATCH)
+
+/* The version of the library that is linked, as a number like ISCC_VERSION. */
+uint32_t iscc_version(void);
+
+/*
+ * What a call answers: ISCC_OK or the number of a refusal. No call gives all of them; each names
+ * its own below.
+ */
 enum iscc_number {
     ISCC_OK = 0,
-    ISCC_EMPTY_TEXT = 1,              /* nothing is left after blanks, scheme and hyphens are dropped */
+    ISCC_EMPTY_TEXT = 1,              /* nothing is left once blanks, scheme and hyphens go */
     ISCC_LONG_TEXT = 2,               /* the text is longer than 1,024 bytes */
     ISCC_LONG_RUN = 3,                /* more than 80 characters are left */
-    ISCC_BAD_CHARACTER = 4,           /* a character is outside the alphabet: A to Z, a to z, 2 to 7 */
-    ISCC_BAD_COUNT = 5,               /* the count of characters leaves 1, 3 or 6 over a multiple of 8 */
+    ISCC_BAD_CHARACTER = 4,           /* a character is not of the alphabet: A-Z, a-z, 2-7 */
+    ISCC_BAD_COUNT = 5,               /* the count leaves 1, 3 or 6 over a multiple of 8 */
     ISCC_SPARE_BITS = 6,              /* a spare bit after the last whole byte is not zero */
-    ISCC_BAD_HEADER = 7,              /* a header is cut, has the prefix 1111, or a pad nibble that is not zero */
-    ISCC_NOT_PERMITTED = 8,           /* a header is not permitted, or is no composite's where split wants one */
+    ISCC_BAD_HEADER = 7,              /* a header is cut, starts 1111, or has a pad not zero */
+    ISCC_NOT_PERMITTED = 8,           /* a header not permitted; for split, no composite's */
     ISCC_SHORT_BODY = 9,              /* fewer body bytes than the header says */
-    ISCC_NOT_JOINABLE = 10,           /* two or more items, one being a composite or an ID; or join of one such item */
+    ISCC_NOT_JOINABLE = 10,           /* a composite or an ID among items, or joined alone */
     ISCC_NOT_64_BITS = 11,            /* a unit in a list is not of 64 bits */
     ISCC_MAIN_TYPE_TWICE = 12,        /* a main type is twice in a list */
     ISCC_LACKS_DATA_OR_INSTANCE = 13, /* a list lacks DATA or INSTANCE */
     ISCC_SUBTYPES_DIFFER = 14,        /* SEMANTIC and CONTENT differ in subtype */
     ISCC_AREA_TOO_SHORT = 15,         /* the output area is too short */
-    ISCC_OTHER_TEXT = 16,             /* strict door: intake accepts, but would write another text */
-    ISCC_NUMBER_TOO_LARGE = 17,       /* a number above 4679 to be written as a varnibble; by no call of this header */
+    ISCC_OTHER_TEXT = 16,             /* strict door: intake would write another text */
+    ISCC_NUMBER_TOO_LARGE = 17,       /* above 4679 in a header; by no call of this header */
     ISCC_NO_DISTANCE = 18,            /* two units that have no distance */
     ISCC_BYTES_LEFT_OVER = 19         /* bytes left over where exactly one unit is wanted */
 };
+
+/*
+ * A plain English sentence for a number, on one line, to be shown to a person. It is never null and
+ * need not be freed. These are words and not proved; they stand here so that the archive alone is
+ * enough. The shared library has the same function for other languages (include/exports.c).
+ */
+#ifndef ISCC_INLINE
+#define ISCC_INLINE static inline
+#endif
+ISCC_INLINE const char *iscc_refusal_text(uint32_t number) {
+    switch (number) {
+    case ISCC_OK: return "The code is accepted.";
+    case ISCC_EMPTY_TEXT: return "There is no code in the text.";
+    case ISCC_LONG_TEXT: return "The text is longer than 1,024 bytes.";
+    case ISCC_LONG_RUN: return "The code has more than 80 characters.";
+    case ISCC_BAD_CHARACTER: return "A character is neither a letter A to Z nor a digit 2 to 7.";
+    case ISCC_BAD_COUNT: return "No code has this many characters: some are missing or too many.";
+    case ISCC_SPARE_BITS: return "The last character is wrong, or the end of the code is missing.";
+    case ISCC_BAD_HEADER: return "The first characters of a unit are wrong, or a unit is cut off.";
+    case ISCC_NOT_PERMITTED: return "A unit is of a kind or a length that is not permitted here.";
+    case ISCC_SHORT_BODY: return "A unit is shorter than its first characters say.";
+    case ISCC_NOT_JOINABLE: return "A composite or an ID cannot be joined.";
+    case ISCC_NOT_64_BITS: return "A unit to be joined has a length other than 64 bits.";
+    case ISCC_MAIN_TYPE_TWICE: return "Two units have the same main type.";
+    case ISCC_LACKS_DATA_OR_INSTANCE: return "The DATA or the INSTANCE unit is missing.";
+    case ISCC_SUBTYPES_DIFFER: return "The SEMANTIC and the CONTENT unit differ in subtype.";
+    case ISCC_AREA_TOO_SHORT: return "The area for the answer is too short.";
+    case ISCC_OTHER_TEXT: return "The code is good, but not in its one strict spelling.";
+    case ISCC_NUMBER_TOO_LARGE: return "A number above 4679 cannot be written in a header.";
+    case ISCC_NO_DISTANCE: return "These two units have no distance.";
+    case ISCC_BYTES_LEFT_OVER: return "Bytes are left over after the code.";
+    default: return "There is no such number.";
+    }
+}
 
 /* The longest text that is written, and the least length of an output area for one. */
 #define ISCC_TEXT_AREA 73
@@ -59,8 +119,9 @@ typedef struct {
 } iscc_written;
 
 /*
- * ISCC_OK, the differing bits among the first n, the shorter body's bits n, and d / n rounded once to a float; or a
- * refusal, 0, 0 and +0.0. d is at most n, and n at most 256. Where n is 32, 64, 128 or 256 the ratio is exact.
+ * ISCC_OK, the differing bits among the first n, the shorter body's bits n, and d / n rounded once
+ * to a float; or a refusal, 0, 0 and +0.0. d is at most n, and n at most 256. Where n is 32, 64,
+ * 128 or 256 the ratio is exact.
  */
 typedef struct {
     uint32_t number;
@@ -70,37 +131,44 @@ typedef struct {
 } iscc_distance_answer;
 
 /*
- * The intake door: reads a code as it was typed (blanks at both ends, the scheme in any letter case, hyphens, either case,
- * units in any order) and writes its one text, `ISCC:` and capitals.
+ * The intake door: reads a code as it was typed (blanks at both ends, the scheme in any letter
+ * case, hyphens, either case, units in any order) and writes its one text, `ISCC:` and capitals.
  *
- * Refusals, in the order of their tests: 15 where the area is below ISCC_TEXT_AREA bytes, whatever the text; 2, 1, 3, 4, 5,
- * 6; then 7, 8, 9 for each unit from the left; then, for two or more items, 10 to 14.
+ * Refusals, in the order of their tests: 15 where the area is below ISCC_TEXT_AREA bytes, whatever
+ * the text; 2, 1, 3, 4, 5, 6; then 7, 8, 9 for each unit from the left; then, for two or more
+ * items, 10 to 14.
  */
 iscc_written iscc_intake(const uint8_t *text, size_t text_len, uint8_t *out, size_t out_len);
 
-/* The strict door: ISCC_OK exactly if intake would write this very text; else 2, 1, 3 to 14 as intake, then 16. */
+/*
+ * The strict door: ISCC_OK exactly if intake would write this very text; else 2, 1, 3 to 14 as
+ * intake, then 16.
+ */
 uint32_t iscc_strict(const uint8_t *text, size_t text_len);
 
 /*
- * The code of a text: its bytes, those of the one unit or composite that the text means. Two typed labels mean the same
- * exactly when these bytes are the same.
+ * The code of a text: its bytes, those of the one unit or composite that the text means. Two typed
+ * labels mean the same exactly when these bytes are the same.
  *
- * Refusals: 15 where the area is below ISCC_CODE_AREA bytes, whatever the text; then 2, 1, 3 to 14 as intake.
+ * Refusals: 15 where the area is below ISCC_CODE_AREA bytes, whatever the text; then 2, 1, 3 to 14
+ * as intake.
  */
 iscc_written iscc_code(const uint8_t *text, size_t text_len, uint8_t *out, size_t out_len);
 
 /*
  * The text of a code: writes the one text of the unit or composite that the bytes are.
  *
- * Refusals: 15 where the area is below ISCC_TEXT_AREA bytes, whatever the code; then 7, 8, 9, 19 of the bytes.
+ * Refusals: 15 where the area is below ISCC_TEXT_AREA bytes, whatever the code; then 7, 8, 9, 19 of
+ * the bytes.
  */
 iscc_written iscc_text(const uint8_t *code, size_t code_len, uint8_t *out, size_t out_len);
 
 /*
  * Joins units laid end to end to the composite that they make, whatever their order.
  *
- * Refusals: 7, 8, 9 for each unit from the left (no bytes are 7); of one item alone 10 for a composite or an ID, else 13; of
- * more 10 to 14; then 15 where the area is shorter than the composite (18 to 42 bytes).
+ * Refusals: 7, 8, 9 for each unit from the left (no bytes are 7); of one item alone 10 for a
+ * composite or an ID, else 13; of more 10 to 14; then 15 where the area is shorter than the
+ * composite (18 to 42 bytes).
  */
 iscc_written iscc_join(const uint8_t *units, size_t units_len, uint8_t *out, size_t out_len);
 
@@ -114,8 +182,8 @@ iscc_written iscc_split(const uint8_t *code, size_t code_len, uint8_t *out, size
 /*
  * The distance between two units, each an area of its bytes (header and body, not text).
  *
- * Refusals: 7, 8, 9, 19 of the first area, the same of the second, then 18 unless both have the same main type of META,
- * SEMANTIC, CONTENT and DATA and the same subtype.
+ * Refusals: 7, 8, 9, 19 of the first area, the same of the second, then 18 unless both have the
+ * same main type of META, SEMANTIC, CONTENT and DATA and the same subtype.
  */
 iscc_distance_answer iscc_distance(const uint8_t *a, size_t a_len, const uint8_t *b, size_t b_len);
 
