@@ -82,7 +82,7 @@ enum iscc_number {
 #endif
 ISCC_INLINE const char *iscc_refusal_text(uint32_t number) {
     switch (number) {
-    case ISCC_OK: return "The code is accepted.";
+    case ISCC_OK: return "Accepted.";
     case ISCC_EMPTY_TEXT: return "There is no code in the text.";
     case ISCC_LONG_TEXT: return "The text is longer than 1,024 bytes.";
     case ISCC_LONG_RUN: return "The code has more than 80 characters.";
