@@ -1,9 +1,17 @@
 /*
- * Labels from the counter, as a console takes them in: one is written as its one text, and two are compared.
+ * Labels from the counter, as a console takes them in: one is written as its one text, and two are
+ * compared. A label that is refused is told with its number and a sentence.
+ *
+ *   ./install target/installed
+ *   export PKG_CONFIG_PATH=$PWD/target/installed/lib/pkgconfig
+ *   export LD_LIBRARY_PATH=$PWD/target/installed/lib
+ *   gcc examples/c/console.c $(pkg-config --cflags --libs iscc) -o target/console
+ *   target/console 'GAAW2PRCRS5LNVZV-IAAUVACQKXE3V44W' 'iscc:iaauvacqkxe3v44w-gaaw2prcrs5lnvzv'
+ *
+ * Without installing, with the archive alone:
  *
  *   rt staticlib console
  *   gcc -Iinclude examples/c/console.c target/staticlib/libconsole.a -o target/console
- *   target/console 'GAAW2PRCRS5LNVZV-IAAUVACQKXE3V44W' 'iscc:iaauvacqkxe3v44w-gaaw2prcrs5lnvzv'
  */
 #include "iscc.h"
 
@@ -17,10 +25,12 @@ typedef struct {
 
 /* The code of a typed label; tells its refusal where there is none. */
 static int code_of(const char *typed, code *c) {
-    iscc_written answer = iscc_code((const uint8_t *)typed, strlen(typed), c->bytes, sizeof c->bytes);
-    if (answer.number != ISCC_OK) printf("%s: refused %u\n", typed, (unsigned)answer.number);
+    const uint8_t *text = (const uint8_t *)typed;
+    iscc_written answer = iscc_code(text, strlen(typed), c->bytes, sizeof c->bytes);
+    unsigned number = answer.number;
+    if (number != ISCC_OK) printf("%s: refused %u: %s\n", typed, number, iscc_refusal_text(number));
     c->length = answer.length;
-    return answer.number == ISCC_OK;
+    return number == ISCC_OK;
 }
 
 /* Two typed labels mean the same exactly when their codes are the same bytes. */

@@ -1,0 +1,55 @@
+/*
+ * What a program sees of an installed library, in C and in C++: prints the version, then each
+ * number with its sentence. The exit status is 1 where the header's version is not the library's,
+ * or a sentence could not be shown to a person.
+ */
+#include <iscc.h>
+
+#include <stdio.h>
+#include <string.h>
+
+static int wrong = 0;
+
+static void expect(int holds, const char *what, uint32_t number) {
+    if (holds) return;
+    fprintf(stderr, "%lu: %s\n", (unsigned long)number, what);
+    wrong = 1;
+}
+
+static void check_version(void) {
+    char text[32];
+    sprintf(text, "%d.%d.%d", ISCC_VERSION_MAJOR, ISCC_VERSION_MINOR, ISCC_VERSION_PATCH);
+    expect(strcmp(text, ISCC_VERSION_TEXT) == 0, "another ISCC_VERSION_TEXT", ISCC_VERSION);
+    expect(iscc_version() == ISCC_VERSION, "the library has another version", iscc_version());
+    expect(ISCC_VERSION >> 16 == ISCC_VERSION_MAJOR, "another major version", ISCC_VERSION);
+    expect((ISCC_VERSION >> 8) % 256 == ISCC_VERSION_MINOR, "another minor version", ISCC_VERSION);
+    expect(ISCC_VERSION % 256 == ISCC_VERSION_PATCH, "another patch", ISCC_VERSION);
+    printf("%s\n", ISCC_VERSION_TEXT);
+}
+
+/* One line of printable ASCII, at most 100 characters, with a full stop at the end and no other. */
+static int is_sentence(const char *words) {
+    size_t length = strlen(words), i;
+    for (i = 0; i < length; i++)
+        if (words[i] < 32 || words[i] > 126 || (words[i] == '.' && i + 1 < length)) return 0;
+    return length > 1 && length <= 100 && words[length - 1] == '.';
+}
+
+static void check_words(uint32_t number) {
+    const char *words = iscc_refusal_text(number);
+    uint32_t other;
+    expect(is_sentence(words), "no sentence", number);
+    for (other = 0; other < number; other++)
+        expect(strcmp(words, iscc_refusal_text(other)) != 0, "the words of another number", number);
+    printf("%lu %s\n", (unsigned long)number, words);
+}
+
+int main(void) {
+    const uint32_t unknown = ISCC_BYTES_LEFT_OVER + 1;
+    uint32_t number;
+    check_version();
+    for (number = ISCC_OK; number <= unknown; number++) check_words(number);
+    expect(strcmp(iscc_refusal_text(0xFFFFFFFFu), iscc_refusal_text(unknown)) == 0,
+           "another unknown number has other words", 0xFFFFFFFFu);
+    return wrong;
+}
