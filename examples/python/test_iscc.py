@@ -1,0 +1,327 @@
+"""Tests of the Python module, over the library that ISCC_LIBRARY or target/installed has.
+
+    ./install target/installed
+    python3 examples/python/test_iscc.py [TEST..]      as Texts.test_nul
+
+The last line is 'N passed, M failed', and the exit status is 0 only where nothing failed.
+"""
+
+from __future__ import annotations
+
+import os
+import pathlib
+import pickle
+import re
+import shutil
+import struct
+import subprocess
+import sys
+import tempfile
+import threading
+import unittest
+from collections.abc import Callable, Iterator
+
+sys.dont_write_bytecode = True
+
+import iscc  # noqa: E402
+
+HERE = pathlib.Path(__file__).resolve().parent
+TOP = HERE.parents[1]
+HEADER = (TOP / "include" / "iscc.h").read_text("ascii")
+
+TYPED = "iaauvacqkxe3v44w-gaaw2prcrs5lnvzv"
+WRITTEN = "ISCC:KUAG2PRCRS5LNVZVJKAFAVOJXLZZM"
+CONTENT = bytes.fromhex("30016d3e228cbab6d735")
+DATA = bytes.fromhex("40014a805055c9baf396")
+
+
+def answer(call: Callable[..., object], *arguments: object) -> object:
+    """What a call gives, or the number of its refusal."""
+    try:
+        return call(*arguments)
+    except iscc.Refused as refused:
+        return refused.number
+
+
+def in_a_process(code: str, module: pathlib.Path, library: str | None) -> str:
+    """What a Python of its own prints that finds the module in a folder; errors are printed too."""
+    environment = {**os.environ, "PYTHONPATH": str(module), "PYTHONDONTWRITEBYTECODE": "1"}
+    environment.pop("ISCC_LIBRARY", None)
+    if library is not None:
+        environment["ISCC_LIBRARY"] = library
+    run = subprocess.run(
+        [sys.executable, "-c", code], env=environment, capture_output=True, text=True, check=False
+    )
+    return run.stdout + run.stderr
+
+
+class Header(unittest.TestCase):
+    """The module says what the header says."""
+
+    def numbers(self) -> dict[str, int]:
+        found = re.findall(r"^ +ISCC_([A-Z0-9_]+) = (\d+)", HEADER, re.MULTILINE)
+        return {name: int(number) for name, number in found}
+
+    def defined(self, name: str) -> str:
+        found = re.search(rf"^#define {name} (.+)$", HEADER, re.MULTILINE)
+        assert found, name
+        return found[1]
+
+    def test_names(self) -> None:
+        named = {"OK": 0, **{refusal.name: refusal.value for refusal in iscc.Refusal}}
+        self.assertEqual(named, self.numbers())
+
+    def test_sentences(self) -> None:
+        found = re.findall(r'^    case ISCC_([A-Z0-9_]+): return "(.+)";$', HEADER, re.MULTILINE)
+        numbers = self.numbers()
+        self.assertEqual({name for name, _ in found}, set(numbers))
+        for name, sentence in found:
+            self.assertEqual(iscc.refusal_text(numbers[name]), sentence)
+
+    def test_no_such_number(self) -> None:
+        for number in (len(iscc.Refusal) + 1, 2**32 - 1):
+            self.assertEqual(iscc.refusal_text(number), "There is no such number.")
+
+    def test_version(self) -> None:
+        self.assertEqual(f'"{iscc.version()}"', self.defined("ISCC_VERSION_TEXT"))
+        self.assertEqual(str(iscc._MAJOR), self.defined("ISCC_VERSION_MAJOR"))
+
+    def test_areas(self) -> None:
+        self.assertEqual(str(iscc._TEXT_AREA), self.defined("ISCC_TEXT_AREA"))
+        self.assertEqual(str(iscc._CODE_AREA), self.defined("ISCC_CODE_AREA"))
+
+
+class Vectors(unittest.TestCase):
+    """Every vector of a call that the module has; those with an area too short cannot be asked."""
+
+    def rows(self, table: str) -> Iterator[list[str]]:
+        lines = (TOP / "tests" / "vectors" / f"{table}.tsv").read_text("ascii").splitlines()
+        rows = [line.split("\t") for line in lines if not line.startswith("#")]
+        self.assertEqual(len(rows), 2000)
+        yield from rows
+
+    def written(self, table: str, call: Callable[[bytes], bytes], out: int) -> None:
+        for row in self.rows(table):
+            number = int(row[2])
+            due = number or bytes.fromhex(row[out].replace("-", ""))
+            given = bytes.fromhex(row[1].replace("-", ""))
+            if number != iscc.Refusal.AREA_TOO_SHORT:
+                self.assertEqual(answer(call, given), due, row)
+
+    def test_intake(self) -> None:
+        self.written("intake", lambda text: iscc.intake(text).encode(), 5)
+
+    def test_text_of_code(self) -> None:
+        self.written("intake", lambda text: iscc.text(iscc.code(text)).encode(), 5)
+
+    def test_join(self) -> None:
+        self.written("join", iscc.join, 5)
+
+    def test_split(self) -> None:
+        self.written("split", lambda code: b"".join(iscc.split(code)), 4)
+
+    def test_strict(self) -> None:
+        for text, number, _ in self.rows("strict"):
+            given = bytes.fromhex(text.replace("-", ""))
+            self.assertEqual(answer(iscc.strict, given), int(number) or None, text)
+            self.assertEqual(iscc.is_strict(given), number == "0", text)
+
+    def test_distance(self) -> None:
+        for a, b, number, d, n, ratio in self.rows("distance"):
+            units = [bytes.fromhex(unit.replace("-", "")) for unit in (a, b)]
+            far = (int(d), int(n), *struct.unpack(">f", bytes.fromhex(ratio)))
+            self.assertEqual(answer(iscc.distance, *units), int(number) or far, (a, b))
+
+
+class Texts(unittest.TestCase):
+    """What may be given as a text or a code, and what comes back."""
+
+    def test_kinds_of_text(self) -> None:
+        data = TYPED.encode()
+        for given in (TYPED, data, bytearray(data), memoryview(data)):
+            self.assertEqual(iscc.intake(given), WRITTEN)
+            self.assertEqual(iscc.code(given), iscc.join(CONTENT, DATA))
+            self.assertIs(iscc.is_strict(given), False)
+
+    def test_kinds_of_code(self) -> None:
+        for unit in (CONTENT, bytearray(CONTENT), memoryview(CONTENT)):
+            self.assertEqual(iscc.text(unit), "ISCC:GAAW2PRCRS5LNVZV")
+            self.assertEqual(iscc.distance(unit, CONTENT), (0, 64, 0.0))
+
+    def test_there_and_back(self) -> None:
+        self.assertEqual(iscc.split(iscc.join(DATA, CONTENT)), [CONTENT, DATA])
+        self.assertEqual(iscc.code(iscc.text(CONTENT)), CONTENT)
+        self.assertIsNone(iscc.strict(WRITTEN))
+        self.assertIs(iscc.is_strict(WRITTEN), True)
+
+    def test_distance_by_name(self) -> None:
+        far = iscc.distance(iscc.code("gaaaaaaaaa"), iscc.code("GAAP6-AAAAE"))
+        self.assertEqual((far.d, far.n, far.ratio), (9, 32, 0.28125))
+
+    def test_nul(self) -> None:
+        self.assertEqual(answer(iscc.intake, "MAAGZTFQTTVIZPJR\0"), 4)
+        self.assertEqual(answer(iscc.intake, "\0"), 4)
+        self.assertEqual(iscc.code("gaaaaaaaaa"), bytes.fromhex("300000000000"))
+        self.assertEqual(iscc.text(bytes.fromhex("300000000000")), "ISCC:GAAAAAAAAA")
+
+    def test_outside_ascii(self) -> None:
+        for given in ("é", "\ud800", "\udcff", "ISCC:GAAW2PRCRS5LNVZ\N{KELVIN SIGN}", b"\xff"):
+            self.assertEqual(answer(iscc.intake, given), 4)
+
+    def test_long(self) -> None:
+        label = "MAAGZTFQTTVIZPJR"
+        self.assertEqual(iscc.intake(label.rjust(1024)), "ISCC:" + label)
+        self.assertEqual(answer(iscc.intake, label.rjust(1025)), 2)
+        self.assertEqual(answer(iscc.intake, "é" * 513), 2)  # the bytes are counted
+        self.assertEqual(answer(iscc.intake, label * 1_000_000), 2)
+
+    def test_other_types(self) -> None:
+        for given in (5, None, 1.5, [71], ["GAA"]):
+            for call in (iscc.intake, iscc.strict, iscc.is_strict, iscc.code):
+                self.assertRaisesRegex(TypeError, "a text is a str or bytes", call, given)
+            for call in (iscc.text, iscc.join, iscc.split):
+                self.assertRaisesRegex(TypeError, "a code is bytes", call, given)
+            self.assertRaisesRegex(TypeError, "a code is bytes", iscc.distance, CONTENT, given)
+        self.assertRaisesRegex(TypeError, r"code\(\) gives the code", iscc.text, WRITTEN)
+
+
+class Refusals(unittest.TestCase):
+    """The exception."""
+
+    def test_fields(self) -> None:
+        with self.assertRaises(ValueError) as caught:
+            iscc.strict(TYPED)
+        refused = caught.exception
+        assert isinstance(refused, iscc.Refused)
+        self.assertEqual((refused.number, refused.name), (16, "OTHER_TEXT"))
+        self.assertEqual(refused.sentence, iscc.refusal_text(16))
+        self.assertEqual(str(refused), f"refused 16 OTHER_TEXT: {refused.sentence}")
+
+    def test_every_number(self) -> None:
+        for refusal in iscc.Refusal:
+            refused = iscc.Refused(refusal)
+            self.assertEqual((refused.number, refused.name), (refusal, refusal.name))
+            self.assertEqual(refused.sentence, iscc.refusal_text(refusal))
+
+    def test_number_of_a_later_library(self) -> None:
+        self.assertEqual(iscc.Refused(len(iscc.Refusal) + 1).name, "UNKNOWN")
+
+    def test_pickle(self) -> None:
+        again = pickle.loads(pickle.dumps(iscc.Refused(4)))
+        self.assertEqual((again.number, str(again)), (4, str(iscc.Refused(4))))
+
+
+class Library(unittest.TestCase):
+    """Where the library is found, and what is said where it is not."""
+
+    def setUp(self) -> None:
+        (TOP / "target").mkdir(exist_ok=True)
+        folder = tempfile.TemporaryDirectory(dir=TOP / "target")
+        self.addCleanup(folder.cleanup)
+        self.folder = pathlib.Path(folder.name)
+        self.library = iscc._library()._name
+
+    def test_missing(self) -> None:
+        tried = "import iscc\ntry: iscc.version()\nexcept OSError as e: print(type(e).__name__, e)"
+        said = in_a_process(tried, HERE, str(self.folder / "libiscc.so"))
+        self.assertTrue(said.startswith("LibraryMissing the ISCC library cannot be loaded"), said)
+        self.assertIn("./install target/installed", said)
+
+    def test_copied_away(self) -> None:
+        shutil.copy(HERE / "iscc.py", self.folder)
+        said = in_a_process("import iscc; print(iscc.version())", self.folder, self.library)
+        self.assertEqual(said, iscc.version() + "\n")
+
+    def test_in_a_repository(self) -> None:
+        module = self.folder / "examples" / "python"
+        for folder in (module, self.folder / "include", self.folder / "target/installed/lib"):
+            folder.mkdir(parents=True)
+        shutil.copy(HERE / "iscc.py", module)
+        shutil.copy(TOP / "include" / "iscc.h", self.folder / "include")
+        built = shutil.copy(self.library, self.folder / "target/installed/lib/libiscc.so")
+        said = in_a_process("import iscc; print(iscc._library()._name)", module, None)
+        self.assertEqual(said, f"{built}\n")
+
+    def test_another_library(self) -> None:
+        said = in_a_process("import iscc; iscc.version()", HERE, "libc.so.6")
+        self.assertIn("WrongLibrary: libc.so.6 is no library of this module", said)
+
+    def test_another_major_version(self) -> None:
+        names = set(re.findall(r"[ *](iscc_[a-z_]+)\(", HEADER)) - {"iscc_version"}
+        lines = [f"int {name};" for name in sorted(names)]
+        lines.append("unsigned iscc_version(void) { return 65536; }\n")
+        source, other = self.folder / "other.c", str(self.folder / "other.so")
+        source.write_text("\n".join(lines))
+        subprocess.run(["gcc", "-shared", "-fPIC", str(source), "-o", other], check=True)
+        said = in_a_process("import iscc; iscc.intake('')", HERE, other)
+        self.assertIn(f"WrongLibrary: {other} has major version 1; this module is for 0", said)
+
+
+class Threads(unittest.TestCase):
+    """Calls at the same time do not disturb each other."""
+
+    def test_many(self) -> None:
+        labels = [iscc.text(CONTENT[:-1] + bytes([last])).lower() for last in range(256)]
+        due = [(label.upper(), CONTENT[:-1] + bytes([last])) for last, label in enumerate(labels)]
+        threads = 8
+        start = threading.Barrier(threads)
+        got: list[list[tuple[str, bytes]]] = [[] for _ in range(threads)]
+
+        def work(own: int) -> None:
+            start.wait()
+            for _ in range(4):
+                got[own] = [(iscc.intake(label), iscc.code(label)) for label in labels]
+
+        running = [threading.Thread(target=work, args=(own,)) for own in range(threads)]
+        for thread in running:
+            thread.start()
+        for thread in running:
+            thread.join()
+        self.assertEqual(got, [due] * threads)
+
+
+class Example(unittest.TestCase):
+    """labels.py writes what the README shows."""
+
+    def run_labels(self, *labels: str) -> tuple[int, str]:
+        environment = {**os.environ, "ISCC_LIBRARY": iscc._library()._name}
+        run = subprocess.run(
+            [sys.executable, "-B", str(HERE / "labels.py"), *labels],
+            env=environment,
+            capture_output=True,
+            text=True,
+            check=False,
+        )
+        return run.returncode, run.stdout + run.stderr
+
+    def test_own_labels(self) -> None:
+        lines = (
+            WRITTEN,
+            "strict",
+            "the same code",
+            "units ISCC:GAAW2PRCRS5LNVZV ISCC:IAAUVACQKXE3V44W",
+            "distance 9 of 32 bits, ratio 0.28125",
+            "'GAAW2PRCRS5LNVZ0': refused 4 BAD_CHARACTER: "
+            "A character is neither a letter A to Z nor a digit 2 to 7.",
+        )
+        self.assertEqual(self.run_labels(), (0, "\n".join(lines) + "\n"))
+
+    def test_given_labels(self) -> None:
+        self.assertEqual(self.run_labels(TYPED), (0, WRITTEN + "\n"))
+        status, said = self.run_labels("", TYPED)
+        self.assertEqual(status, 1)
+        self.assertEqual(said, f"'': {iscc.Refused(1)}\n{WRITTEN}\n")
+
+
+def main(names: list[str]) -> int:
+    here = sys.modules[__name__]
+    load = unittest.defaultTestLoader
+    suite = load.loadTestsFromNames(names, here) if names else load.loadTestsFromModule(here)
+    result = unittest.TextTestRunner(stream=sys.stdout).run(suite)
+    failed = len(result.failures) + len(result.errors)
+    print(f"{result.testsRun - failed} passed, {failed} failed")
+    return 0 if result.wasSuccessful() and result.testsRun > 0 else 1
+
+
+if __name__ == "__main__":
+    sys.exit(main(sys.argv[1:]))
