@@ -35,7 +35,10 @@ CONTENT = bytes.fromhex("30016d3e228cbab6d735")
 DATA = bytes.fromhex("40014a805055c9baf396")
 
 
-def answer(call: Callable[..., object], *arguments: object) -> object:
+Call = Callable[..., object]
+
+
+def answer(call: Call, *arguments: object) -> object:
     """What a call gives, or the number of its refusal."""
     try:
         return call(*arguments)
@@ -138,20 +141,22 @@ class Texts(unittest.TestCase):
 
     def test_kinds_of_text(self) -> None:
         data = TYPED.encode()
-        for given in (TYPED, data, bytearray(data), memoryview(data)):
+        texts: list[iscc.Text] = [TYPED, data, bytearray(data), memoryview(data)]
+        for given in texts:
             self.assertEqual(iscc.intake(given), WRITTEN)
             self.assertEqual(iscc.code(given), iscc.join(CONTENT, DATA))
             self.assertIs(iscc.is_strict(given), False)
 
     def test_kinds_of_code(self) -> None:
-        for unit in (CONTENT, bytearray(CONTENT), memoryview(CONTENT)):
+        units: list[iscc.Bytes] = [CONTENT, bytearray(CONTENT), memoryview(CONTENT)]
+        for unit in units:
             self.assertEqual(iscc.text(unit), "ISCC:GAAW2PRCRS5LNVZV")
             self.assertEqual(iscc.distance(unit, CONTENT), (0, 64, 0.0))
 
     def test_there_and_back(self) -> None:
         self.assertEqual(iscc.split(iscc.join(DATA, CONTENT)), [CONTENT, DATA])
         self.assertEqual(iscc.code(iscc.text(CONTENT)), CONTENT)
-        self.assertIsNone(iscc.strict(WRITTEN))
+        self.assertIsNone(answer(iscc.strict, WRITTEN))
         self.assertIs(iscc.is_strict(WRITTEN), True)
 
     def test_distance_by_name(self) -> None:
@@ -176,10 +181,12 @@ class Texts(unittest.TestCase):
         self.assertEqual(answer(iscc.intake, label * 1_000_000), 2)
 
     def test_other_types(self) -> None:
+        of_texts: list[Call] = [iscc.intake, iscc.strict, iscc.is_strict, iscc.code]
+        of_codes: list[Call] = [iscc.text, iscc.join, iscc.split]
         for given in (5, None, 1.5, [71], ["GAA"]):
-            for call in (iscc.intake, iscc.strict, iscc.is_strict, iscc.code):
+            for call in of_texts:
                 self.assertRaisesRegex(TypeError, "a text is a str or bytes", call, given)
-            for call in (iscc.text, iscc.join, iscc.split):
+            for call in of_codes:
                 self.assertRaisesRegex(TypeError, "a code is bytes", call, given)
             self.assertRaisesRegex(TypeError, "a code is bytes", iscc.distance, CONTENT, given)
         self.assertRaisesRegex(TypeError, r"code\(\) gives the code", iscc.text, WRITTEN)
