@@ -4,7 +4,7 @@
     python3 examples/python/labels.py 'gaaw2prcrs5lnvzv-iaauvacqkxe3v44w'
 
 Without labels it takes some of its own, and also shows codes and the distance. The exit status is 1
-where one of the labels that were given is refused.
+where one of the labels that were given is refused, or the library is missing.
 """
 
 from __future__ import annotations
@@ -46,4 +46,7 @@ def main(labels: list[str]) -> int:
 
 
 if __name__ == "__main__":
-    sys.exit(main(sys.argv[1:]))
+    try:
+        sys.exit(main(sys.argv[1:]))
+    except iscc.LibraryMissing as missing:
+        sys.exit(str(missing))

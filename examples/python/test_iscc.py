@@ -12,6 +12,7 @@ import os
 import pathlib
 import pickle
 import re
+import shlex
 import shutil
 import struct
 import subprocess
@@ -290,8 +291,8 @@ class Threads(unittest.TestCase):
 class Example(unittest.TestCase):
     """labels.py writes what the README shows."""
 
-    def run_labels(self, *labels: str) -> tuple[int, str]:
-        environment = {**os.environ, "ISCC_LIBRARY": iscc._library()._name}
+    def run_labels(self, *labels: str, library: str | None = None) -> tuple[int, str]:
+        environment = {**os.environ, "ISCC_LIBRARY": library or iscc._library()._name}
         run = subprocess.run(
             [sys.executable, "-B", str(HERE / "labels.py"), *labels],
             env=environment,
@@ -319,13 +320,29 @@ class Example(unittest.TestCase):
         self.assertEqual(status, 1)
         self.assertEqual(said, f"'': {iscc.Refused(1)}\n{WRITTEN}\n")
 
+    def test_no_library(self) -> None:
+        status, said = self.run_labels(TYPED, library=str(HERE / "libiscc.so"))
+        self.assertEqual((status, said.count("\n")), (1, 1), said)
+        self.assertTrue(said.startswith("the ISCC library cannot be loaded"), said)
+
+
+def say_again(test: unittest.TestCase) -> None:
+    """The one command that runs a failed test again."""
+    library = os.environ.get("ISCC_LIBRARY")
+    front = f"ISCC_LIBRARY={shlex.quote(library)} " if library else ""
+    name = test.id().removeprefix(f"{__name__}.")
+    print(f"run again: {front}python3 examples/python/test_iscc.py {name}")
+
 
 def main(names: list[str]) -> int:
     here = sys.modules[__name__]
     load = unittest.defaultTestLoader
     suite = load.loadTestsFromNames(names, here) if names else load.loadTestsFromModule(here)
     result = unittest.TextTestRunner(stream=sys.stdout).run(suite)
-    failed = len(result.failures) + len(result.errors)
+    wrong = [test for test, _ in result.failures + result.errors]
+    for test in wrong:
+        say_again(test)
+    failed = len(wrong)
     print(f"{result.testsRun - failed} passed, {failed} failed")
     return 0 if result.wasSuccessful() and result.testsRun > 0 else 1
 
