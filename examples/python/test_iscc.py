@@ -32,8 +32,8 @@ HEADER = (TOP / "include" / "iscc.h").read_text("ascii")
 
 TYPED = "iaauvacqkxe3v44w-gaaw2prcrs5lnvzv"
 WRITTEN = "ISCC:KUAG2PRCRS5LNVZVJKAFAVOJXLZZM"
-CONTENT = bytes.fromhex("30016d3e228cbab6d735")
-DATA = bytes.fromhex("40014a805055c9baf396")
+DATA = bytes.fromhex("30016d3e228cbab6d735")
+INSTANCE = bytes.fromhex("40014a805055c9baf396")
 
 
 Call = Callable[..., object]
@@ -145,18 +145,18 @@ class Texts(unittest.TestCase):
         texts: list[iscc.Text] = [TYPED, data, bytearray(data), memoryview(data)]
         for given in texts:
             self.assertEqual(iscc.intake(given), WRITTEN)
-            self.assertEqual(iscc.code(given), iscc.join(CONTENT, DATA))
+            self.assertEqual(iscc.code(given), iscc.join(DATA, INSTANCE))
             self.assertIs(iscc.is_strict(given), False)
 
     def test_kinds_of_code(self) -> None:
-        units: list[iscc.Bytes] = [CONTENT, bytearray(CONTENT), memoryview(CONTENT)]
+        units: list[iscc.Bytes] = [DATA, bytearray(DATA), memoryview(DATA)]
         for unit in units:
             self.assertEqual(iscc.text(unit), "ISCC:GAAW2PRCRS5LNVZV")
-            self.assertEqual(iscc.distance(unit, CONTENT), (0, 64, 0.0))
+            self.assertEqual(iscc.distance(unit, DATA), (0, 64, 0.0))
 
     def test_there_and_back(self) -> None:
-        self.assertEqual(iscc.split(iscc.join(DATA, CONTENT)), [CONTENT, DATA])
-        self.assertEqual(iscc.code(iscc.text(CONTENT)), CONTENT)
+        self.assertEqual(iscc.split(iscc.join(INSTANCE, DATA)), [DATA, INSTANCE])
+        self.assertEqual(iscc.code(iscc.text(DATA)), DATA)
         self.assertIsNone(answer(iscc.strict, WRITTEN))
         self.assertIs(iscc.is_strict(WRITTEN), True)
 
@@ -189,7 +189,7 @@ class Texts(unittest.TestCase):
                 self.assertRaisesRegex(TypeError, "a text is a str or bytes", call, given)
             for call in of_codes:
                 self.assertRaisesRegex(TypeError, "a code is bytes", call, given)
-            self.assertRaisesRegex(TypeError, "a code is bytes", iscc.distance, CONTENT, given)
+            self.assertRaisesRegex(TypeError, "a code is bytes", iscc.distance, DATA, given)
         self.assertRaisesRegex(TypeError, r"code\(\) gives the code", iscc.text, WRITTEN)
 
 
@@ -269,8 +269,8 @@ class Threads(unittest.TestCase):
     """Calls at the same time do not disturb each other."""
 
     def test_many(self) -> None:
-        labels = [iscc.text(CONTENT[:-1] + bytes([last])).lower() for last in range(256)]
-        due = [(label.upper(), CONTENT[:-1] + bytes([last])) for last, label in enumerate(labels)]
+        labels = [iscc.text(DATA[:-1] + bytes([last])).lower() for last in range(256)]
+        due = [(label.upper(), DATA[:-1] + bytes([last])) for last, label in enumerate(labels)]
         threads = 8
         start = threading.Barrier(threads)
         got: list[list[tuple[str, bytes]]] = [[] for _ in range(threads)]
