@@ -1,48 +1,78 @@
-//! Both sides must answer alike, or their times say nothing: on every measured input and on each with one byte changed.
+//! Both sides must answer alike, or their times say nothing: on every measured input, which must meet the number that its row
+//! states, and on much that is near the first input of a row.
 
-use crate::{inputs, library};
+use crate::rows::{Call, Row};
+use crate::{library, Writer};
 
-type Writer = fn(&[u8], &mut [u8]) -> (u32, usize);
+/// Inputs up to this length have their neighbours tried too.
+const SHORT: usize = 100;
+/// Too short for every code and text of a row that is accepted.
+const SHORT_AREA: usize = 9;
 
-fn same_writing(proved: Writer, plain: Writer, input: &[u8], area: usize) {
-    let mut areas = [vec![0x5a; area], vec![0x5a; area]];
-    let [first, second] = &mut areas;
-    assert_eq!(proved(input, first), plain(input, second), "on {input:02x?}");
-    assert_eq!(areas[0], areas[1], "on {input:02x?}");
+fn writing(calls: [Writer; 2], input: &[u8], area: usize) -> u32 {
+    let [proved, plain] = calls.map(|call| {
+        let mut area = vec![0x5a; area];
+        (call(input, &mut area), area)
+    });
+    assert_eq!(proved, plain, "on {input:02x?}");
+    proved.0 .0
 }
 
-/// The input, its beginnings, and every change of one byte.
+/// The number that both sides answer, in an area that is long enough and in one that is not.
+fn written(calls: [Writer; 2], row: &Row, input: &[u8]) -> u32 {
+    writing(calls, input, SHORT_AREA);
+    writing(calls, input, row.area().len())
+}
+
+fn measured(a: &[u8], b: &[u8]) -> u32 {
+    let answer = library::distance(a, b);
+    assert_eq!(answer, plain::distance(a, b), "on {a:02x?} and {b:02x?}");
+    answer.0
+}
+
+/// The number that both sides answer. The plain side has no split.
+fn number(row: &Row, input: &[u8]) -> u32 {
+    match row.call {
+        Call::Intake => written([library::intake, plain::intake], row, input),
+        Call::Code => written([library::code, plain::code], row, input),
+        Call::Text => written([library::text, plain::text], row, input),
+        Call::Base32Read => written([library::base32_read, plain::base32_read], row, input),
+        Call::Base32Write => written([library::base32_write, plain::base32_write], row, input),
+        Call::Join => written([library::join, plain::join], row, input),
+        Call::Split => row.number,
+        Call::Distance => {
+            measured(&row.inputs[0], input);
+            measured(input, &row.inputs[0])
+        }
+        Call::Strict => {
+            let answer = library::strict(input);
+            assert_eq!(answer, plain::strict(input), "on {input:02x?}");
+            answer
+        }
+    }
+}
+
+/// All beginnings of the input, and it with each byte in turn changed to every other.
 fn neighbours(input: &[u8], mut check: impl FnMut(&[u8])) {
-    (0..=input.len()).for_each(|end| check(&input[..end]));
+    (0..input.len()).for_each(|end| check(&input[..end]));
     let mut changed = input.to_vec();
-    for at in 0..input.len() {
+    for offset in 0..input.len() {
         for byte in 0..=255 {
-            changed[at] = byte;
+            changed[offset] = byte;
             check(&changed);
         }
-        changed[at] = input[at];
+        changed[offset] = input[offset];
     }
 }
 
-pub fn check() {
-    for text in [&inputs::written()[0], &inputs::typed()[0], &inputs::listed()[0]] {
-        neighbours(text, |text| {
-            same_writing(library::intake, plain::intake, text, 80);
-            same_writing(library::code, plain::code, text, 50);
-            same_writing(library::base32_read, plain::base32_read, text, 60);
-            assert_eq!(library::strict(text), plain::strict(text), "on {text:02x?}");
+pub fn check(row: &Row) {
+    for input in &row.inputs {
+        assert_eq!(number(row, input), row.number, "{row}: on {input:02x?}");
+    }
+    let first = &row.inputs[0];
+    if first.len() <= SHORT {
+        neighbours(first, |input| {
+            number(row, input);
         });
     }
-    for bytes in [&inputs::units(2)[0], &inputs::units(5)[0]] {
-        neighbours(bytes, |bytes| {
-            same_writing(library::join, plain::join, bytes, 42);
-            same_writing(library::base32_write, plain::base32_write, bytes, 79);
-        });
-    }
-    neighbours(&inputs::codes()[0], |code| same_writing(library::text, plain::text, code, 80));
-    let unit = &inputs::data_units(256)[0];
-    neighbours(&inputs::data_units(128)[0], |other| {
-        assert_eq!(library::distance(unit, other), plain::distance(unit, other), "on {other:02x?}");
-        assert_eq!(library::distance(other, unit), plain::distance(other, unit), "on {other:02x?}");
-    });
 }

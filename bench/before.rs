@@ -30,6 +30,14 @@ enum Answer {
     Measured((u32, u32, u32, f32)),
 }
 
+impl Answer {
+    fn number(&self) -> u32 {
+        match *self {
+            Answer::Written((number, _)) | Answer::Tested(number) | Answer::Measured((number, ..)) => number,
+        }
+    }
+}
+
 fn name_left_out(rows: &[Row]) {
     for row in rows {
         for (revision, entries) in [("before", Entries::before()), ("after", Entries::after())] {
@@ -50,15 +58,20 @@ fn answer(entry: Entry, row: &Row, input: &[u8]) -> (Answer, Vec<u8>) {
     (answer, area)
 }
 
+/// Whether both answer alike, and with the number that the row states.
 fn alike(row: &Row, sides: Sides) -> bool {
     row.inputs.iter().all(|input| {
         let [before, after] = sides.map(|entry| answer(entry, row, input));
+        let stated = after.0.number() == row.number;
+        if !stated {
+            eprintln!("not as stated: {row}: {:?} after", after.0);
+        }
         if before != after {
             let start = input[..input.len().min(80)].escape_ascii();
             let areas = if before.1 == after.1 { "alike" } else { "not alike" };
             eprintln!("not alike: {row}, on {start}: {:?} before, {:?} after, areas {areas}", before.0, after.0);
         }
-        before == after
+        before == after && stated
     })
 }
 

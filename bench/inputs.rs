@@ -13,7 +13,7 @@ fn variants(make: impl Fn(&mut Random) -> Vec<u8>) -> Vec<Vec<u8>> {
     (0..VARIANTS).map(|number| make(&mut case_of(number))).collect()
 }
 
-/// Large ones are few, so that they stay in the cache as they would in use.
+/// Large ones are few, together not above a MiB, so that a cache can hold them.
 pub fn bytes(length: usize) -> Vec<Vec<u8>> {
     let count = (1024 * 1024 / length as u64).clamp(1, VARIANTS);
     (0..count).map(|number| case_of(number).bytes(length)).collect()
@@ -45,6 +45,31 @@ pub fn written() -> Vec<Vec<u8>> {
     variants(|random| [b"ISCC:".to_vec(), encoded(&composite(random))].concat())
 }
 
+fn changed(mut texts: Vec<Vec<u8>>, change: impl Fn(&mut Vec<u8>)) -> Vec<Vec<u8>> {
+    texts.iter_mut().for_each(change);
+    texts
+}
+
+/// Refused with 4 for the first character behind the scheme.
+pub fn outside_first() -> Vec<Vec<u8>> {
+    changed(written(), |text| text[5] = b'1')
+}
+
+/// Refused with 4 for the last character.
+pub fn outside_last() -> Vec<Vec<u8>> {
+    changed(written(), |text| *text.last_mut().unwrap() = b'1')
+}
+
+/// Refused with 5: 67 characters are 3 over a multiple of 8.
+pub fn one_missing() -> Vec<Vec<u8>> {
+    changed(written(), |text| text.truncate(text.len() - 1))
+}
+
+/// Refused with 7: the first nibble is 1111.
+pub fn no_header() -> Vec<Vec<u8>> {
+    changed(written(), |text| text[5] = b'7')
+}
+
 /// The 68 characters alone, in small letters and in groups of eight.
 pub fn typed() -> Vec<Vec<u8>> {
     variants(|random| encoded(&composite(random)).chunks(8).collect::<Vec<_>>().join(&b'-').to_ascii_lowercase())
@@ -54,11 +79,20 @@ pub fn typed() -> Vec<Vec<u8>> {
 pub fn units(count: usize) -> Vec<Vec<u8>> {
     variants(|random| {
         let subtype = random.below(5) as u8;
-        let heads = [0x30, 0x40, 0x00, 0x10 | subtype, 0x20 | subtype];
-        let mut units: Vec<Vec<u8>> = heads[..count].iter().map(|&head| [vec![head, 1], random.bytes(8)].concat()).collect();
-        random.shuffle(&mut units);
-        units.concat()
+        shuffled(random, &[0x30, 0x40, 0x00, 0x10 | subtype, 0x20 | subtype][..count])
     })
+}
+
+/// Units of 64 bits with these first bytes, in any order.
+fn shuffled(random: &mut Random, heads: &[u8]) -> Vec<u8> {
+    let mut units: Vec<Vec<u8>> = heads.iter().map(|&head| random.unit(head, 1)).collect();
+    random.shuffle(&mut units);
+    units.concat()
+}
+
+/// Refused with 12: DATA is in it twice, SEMANTIC is not.
+pub fn data_twice() -> Vec<Vec<u8>> {
+    variants(|random| encoded(&shuffled(random, &[0x30, 0x30, 0x40, 0x00, 0x20])))
 }
 
 pub fn listed() -> Vec<Vec<u8>> {
@@ -72,17 +106,21 @@ pub fn stretched(length: usize) -> Vec<Vec<u8>> {
     texts
 }
 
-/// DATA units end to end: read to the last, then refused with 12.
-pub fn long_list(length: usize) -> Vec<Vec<u8>> {
-    (0..4).map(|case| Random::of_case(12, length as u64, case).unit(0x30, 1).repeat(length / 10)).collect()
+/// Bytes of a unit of 64 bits.
+pub const UNIT: usize = 10;
+
+/// So many DATA units end to end: read to the last, then refused with 12.
+pub fn long_list(count: usize) -> Vec<Vec<u8>> {
+    (0..4).map(|case| Random::of_case(12, count as u64, case).unit(0x30, 1).repeat(count)).collect()
 }
 
-/// Units of one main type and subtype with bodies of so many bits, one behind the other in a pair.
+/// DATA units with bodies of so many bits.
 pub fn data_units(bits: usize) -> Vec<Vec<u8>> {
     variants(|random| random.unit(0x30, (bits / 32 - 1) as u8))
 }
 
 trait Units {
+    /// The body of a unit with this length number is random.
     fn unit(&mut self, head: u8, length: u8) -> Vec<u8>;
 }
 

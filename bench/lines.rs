@@ -1,5 +1,6 @@
 //! The line program on a million lines beside the door alone on the same lines.
 
+use crate::measure::{median, Ratio};
 use crate::{inputs, library};
 use std::fs::File;
 use std::hint::black_box;
@@ -8,23 +9,23 @@ use std::process::{Command, Stdio};
 use std::time::Instant;
 
 const LINES: usize = 1_000_000;
+/// Odd, so that the median is one of them.
 const ROUNDS: usize = 5;
 
-/// Nanoseconds a line, and how many times the door's time the program takes: the medians of some rounds.
-pub fn measure(program: &str, folder: &str) -> [f64; 3] {
+/// Nanoseconds a line of the program and of the door, medians of some rounds, and how many times the door's time it takes.
+pub fn measure(program: &str, folder: &str) -> (f64, f64, Ratio) {
     let texts = inputs::written();
     let path = format!("{folder}/million_lines");
     let lines: Vec<u8> = texts.iter().cycle().take(LINES).flat_map(|text| text.iter().copied().chain([b'\n'])).collect();
     File::create(&path).and_then(|mut file| file.write_all(&lines)).expect("the input is written");
-    let mut figures = [const { Vec::new() }; 3];
+    let mut times = [Vec::new(), Vec::new()];
     for _ in 0..ROUNDS {
-        let whole = run(program, &path);
-        let door = call_door(&texts);
-        for (figure, value) in figures.iter_mut().zip([whole, door, whole / door]) {
-            figure.push(value);
-        }
+        times[0].push(run(program, &path));
+        times[1].push(call_door(&texts));
     }
-    figures.map(crate::measure::median)
+    let ratio = Ratio::of(&times);
+    let [whole, door] = times.map(median);
+    (whole, door, ratio)
 }
 
 fn run(program: &str, input: &str) -> f64 {

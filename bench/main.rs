@@ -1,4 +1,4 @@
-//! The proved libraries beside plain Rust of the same behaviour, as a table of ratios.
+//! The proved libraries beside plain Rust of the same behaviour, as tables of ratios.
 
 mod agree;
 mod entry;
@@ -63,21 +63,45 @@ fn figures(row: &Row) -> Option<Figures> {
     })
 }
 
-fn main() {
-    agree::check();
-    println!("| call | input | proved, ns | plain, ns | proved / plain | proved, ns a byte |");
-    println!("|---|---|---|---|---|---|");
-    for row in rows::all() {
-        let Some(Figures { proved, plain, ratio }) = figures(&row) else { continue };
-        let by_byte = proved / bytes(&row) as f64;
-        println!("| {} | {} | {proved:.1} | {plain:.1} | {ratio:.2} | {by_byte:.3} |", row.call.name(), row.input);
+fn header(names: &[&str]) {
+    println!("| {} |", names.join(" | "));
+    println!("{}|", "|---".repeat(names.len()));
+}
+
+const COLUMNS: [&str; 6] = ["call", "input", "proved, ns", "plain, ns", "proved / plain", "middle half"];
+
+fn print(name: &str, rows: &[Row], by_byte: bool) {
+    println!("\n### {name}\n");
+    header(&[&COLUMNS[..], if by_byte { &["ns a byte"] } else { &[] }].concat());
+    for row in rows {
+        let Some(Figures { proved, plain, ratio }) = figures(row) else { continue };
+        print!("| {} | {} | {proved:.1} | {plain:.1} | {ratio} |", row.call.name(), row.input);
+        if by_byte {
+            print!(" {:.3} |", proved / bytes(row) as f64);
+        }
+        println!();
     }
-    // The line program, where its path and a folder for its input are given.
+}
+
+fn print_lines(program: &str, folder: &str) {
+    let (whole, door, ratio) = lines::measure(program, folder);
+    println!("\n### The line program\n");
+    header(&["program", "input", "program, ns a line", "door alone, ns", "program / door", "middle half"]);
+    println!("| intake_lines | a million lines of 73 characters | {whole:.1} | {door:.1} | {ratio} |");
+}
+
+/// `bench check` compares answers alone. `bench PROGRAM FOLDER` measures the line program too; its input goes to the folder.
+fn main() {
     let words: Vec<String> = std::env::args().skip(1).collect();
+    rows::all().iter().for_each(agree::check);
+    if words == ["check"] {
+        return;
+    }
+    print("Codes and texts", &rows::doors(), false);
+    print("Refusals", &rows::refusals(), false);
+    print("Units", &rows::units(), false);
+    print("Growth", &rows::growth(), true);
     if let [program, folder] = &words[..] {
-        let [whole, door, ratio] = lines::measure(program, folder);
-        println!("\n| program | input | program, ns a line | door alone, ns | program / door |");
-        println!("|---|---|---|---|---|");
-        println!("| intake_lines | a million lines of 73 characters | {whole:.1} | {door:.1} | {ratio:.2} |");
+        print_lines(program, folder);
     }
 }

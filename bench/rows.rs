@@ -19,6 +19,8 @@ pub enum Call {
 
 pub struct Row {
     pub call: Call,
+    /// The refusal that every input meets, or 0.
+    pub number: u32,
     pub input: String,
     pub inputs: Vec<Vec<u8>>,
 }
@@ -56,7 +58,12 @@ impl Display for Row {
 }
 
 fn row(call: Call, input: impl Into<String>, inputs: Vec<Vec<u8>>) -> Row {
-    Row { call, input: input.into(), inputs }
+    Row { call, number: 0, input: input.into(), inputs }
+}
+
+/// A row whose inputs are refused; the number stands behind their name, in brackets.
+fn refused(number: u32, call: Call, input: impl Display, inputs: Vec<Vec<u8>>) -> Row {
+    Row { call, number, input: format!("{input} ({number})"), inputs }
 }
 
 fn size(bytes: usize) -> String {
@@ -67,46 +74,68 @@ fn size(bytes: usize) -> String {
     }
 }
 
-fn doors() -> Vec<Row> {
-    let mut rows = vec![
+pub fn doors() -> Vec<Row> {
+    vec![
         row(Call::Intake, "68 characters as written", inputs::written()),
         row(Call::Intake, "68 characters, small, with hyphens", inputs::typed()),
         row(Call::Intake, "five units, 80 characters", inputs::listed()),
         row(Call::Strict, "68 characters as written", inputs::written()),
-        row(Call::Strict, "68 characters, small, with hyphens (16)", inputs::typed()),
         row(Call::Code, "68 characters as written", inputs::written()),
         row(Call::Code, "68 characters, small, with hyphens", inputs::typed()),
         row(Call::Code, "five units, 80 characters", inputs::listed()),
         row(Call::Text, "42 bytes", inputs::codes()),
-    ];
-    for length in [64, 256, KIB] {
-        rows.push(row(Call::Intake, format!("text of {}, hyphens", size(length)), inputs::stretched(length)));
-        rows.push(row(Call::Strict, format!("text of {}, hyphens (16)", size(length)), inputs::stretched(length)));
-    }
+    ]
+}
+
+pub fn refusals() -> Vec<Row> {
+    let mut rows = Vec::new();
     for call in [Call::Intake, Call::Strict] {
-        rows.push(row(call, "text of 1 MiB (2)", vec![vec![b'-'; KIB * KIB]]));
+        rows.push(refused(4, call, "68 characters, the first is 1", inputs::outside_first()));
+        rows.push(refused(4, call, "68 characters, the last is 1", inputs::outside_last()));
+        rows.push(refused(5, call, "67 characters", inputs::one_missing()));
+        rows.push(refused(7, call, "68 characters, the first is 7", inputs::no_header()));
+        rows.push(refused(12, call, "five units, DATA twice", inputs::data_twice()));
     }
+    rows.push(refused(16, Call::Strict, "68 characters, small, with hyphens", inputs::typed()));
     rows
 }
 
-fn layers() -> Vec<Row> {
-    let mut rows = Vec::new();
-    for length in GROWTH {
-        rows.push(row(Call::Base32Read, format!("text of {} of bytes", size(length)), inputs::runs(length)));
-        rows.push(row(Call::Base32Write, size(length), inputs::bytes(length)));
-    }
-    rows.push(row(Call::Join, "two units", inputs::units(2)));
-    rows.push(row(Call::Join, "five units", inputs::units(5)));
-    for length in GROWTH {
-        rows.push(row(Call::Join, format!("list of {} (12)", size(length)), inputs::long_list(length)));
-    }
-    rows.push(row(Call::Split, "five units", inputs::codes()));
+pub fn units() -> Vec<Row> {
+    let mut rows = vec![
+        row(Call::Join, "two units", inputs::units(2)),
+        row(Call::Join, "five units", inputs::units(5)),
+        row(Call::Split, "five units", inputs::codes()),
+    ];
     for bits in [32, 64, 128, 256] {
         rows.push(row(Call::Distance, format!("{bits} bits"), inputs::data_units(bits)));
     }
     rows
 }
 
+/// The inputs of a call are alike but for their length.
+pub fn growth() -> Vec<Row> {
+    let mut rows = Vec::new();
+    for length in [64, 256, KIB] {
+        let input = format!("{}, hyphens at the end", size(length));
+        rows.push(row(Call::Intake, &input, inputs::stretched(length)));
+        rows.push(refused(16, Call::Strict, &input, inputs::stretched(length)));
+    }
+    for call in [Call::Intake, Call::Strict] {
+        rows.push(refused(2, call, "1 MiB of hyphens", vec![vec![b'-'; KIB * KIB]]));
+    }
+    for length in GROWTH {
+        rows.push(row(Call::Base32Read, format!("the text of {}", size(length)), inputs::runs(length)));
+    }
+    for length in GROWTH {
+        rows.push(row(Call::Base32Write, size(length), inputs::bytes(length)));
+    }
+    for length in GROWTH {
+        let count = length / inputs::UNIT;
+        rows.push(refused(12, Call::Join, format!("{count} DATA units"), inputs::long_list(count)));
+    }
+    rows
+}
+
 pub fn all() -> Vec<Row> {
-    [doors(), layers()].into_iter().flatten().collect()
+    [doors(), refusals(), units(), growth()].into_iter().flatten().collect()
 }
