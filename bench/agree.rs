@@ -1,5 +1,5 @@
-//! Both sides must answer alike, or their times say nothing: on every measured input, which must meet the number that its row
-//! states, and on much that is near the first input of a row.
+//! Both sides must answer alike, or their times say nothing: on every measured input, with the number that its row states; and
+//! on what is near the first input of a row: its beginnings, and each change of one byte.
 
 use crate::rows::{Call, Row};
 use crate::{library, Writer};

@@ -1,5 +1,5 @@
 //! The measured calls once more in plain Rust without proofs: what a careful programmer would write for speed. Nothing is
-//! allocated, areas are written once every test has passed, and answers are those of document 01.
+//! allocated, areas are written once every test has passed, and answers are those of the specification (docs/SPECIFICATION.md).
 
 mod base32;
 mod distance;
