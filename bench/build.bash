@@ -1,4 +1,4 @@
-# Builds what is measured, for release. Sourced by `run` and `before`, at the repository's top; programs go to the folder $out.
+# What `run` and `before` share. Sourced at the repository's top; programs go to the folder $out.
 
 # The archives of the tree that one stands in.
 build_archives() {
@@ -16,4 +16,41 @@ build_program() {
     for object in "$@"; do words+=(-C "link-arg=$object"); done
     release --crate-type rlib --crate-name plain bench/plain/lib.rs &&
         release --crate-name "$name" --extern plain -L "$out" "${words[@]}" "$source"
+}
+
+# usage SCRIPT: the comment at the script's head.
+usage() {
+    sed -n '2,${/^#/!q; s/^# \{0,1\}//p}' "$1"
+}
+
+# refuse SCRIPT WORDS: what is wrong with the arguments.
+refuse() {
+    echo "$1: $2; $1 --help says how it is used" >&2
+    exit 2
+}
+
+# Hundredths of a second that the processors have worked for others than this script and what it ran.
+others() {
+    local all own
+    read -ra all </proc/stat
+    read -ra own </proc/$$/stat
+    echo $((all[1] + all[2] + all[3] + all[6] + all[7] + all[8] - own[13] - own[14] - own[15] - own[16]))
+}
+
+# Millionths of a second since some moment.
+now() {
+    echo "${EPOCHREALTIME/[.,]/}"
+}
+
+# measured COMMAND..: its output, under lines that say on what machine, and how busy that was with other work.
+measured() {
+    local model start busy
+    model=$(sed -n 's/^model name[[:space:]]*: //p;T;q' /proc/cpuinfo)
+    start=$(now)
+    busy=$(others)
+    "$@" >"$out/measured"
+    busy=$((($(others) - busy) * 1000000 / ($(now) - start)))
+    echo "Taken on ${model:-a processor without a name}, $(nproc) cores."
+    echo "Other programs took $busy % of a core meanwhile."
+    cat "$out/measured"
 }
