@@ -59,7 +59,7 @@ extern "C" {
 
 impl Entries {
     pub fn before() -> &'static Entries {
-        // The table above has an address or null in each place, and never changes.
+        // The table above has an address or null for each name, and never changes.
         unsafe { &before_entries }
     }
 
