@@ -1,7 +1,24 @@
-# Counting over parts: a part either ends in a line 'N passed, M failed', or is one check by its exit status.
+# Counting over parts: a part either ends in a line 'N passed, M failed', or is one check by its exit status. Sourced.
 
 passed=0
 failed=0
+# The command that runs a failed part again, where there is one.
+again=
+
+# excerpt: what comes in, without the middle where it is long.
+excerpt() {
+    local lines
+    mapfile -t lines
+    if [ "${#lines[@]}" -le 80 ]; then
+        printf '%s\n' "${lines[@]}"
+    else
+        printf '%s\n' "${lines[@]:0:40}" ".. $((${#lines[@]} - 80)) lines left out .." "${lines[@]: -40}"
+    fi
+}
+
+say_again() {
+    [ -z "$again" ] || echo "run again: $again"
+}
 
 # step NAME COMMAND..: something that must be done before the checks; counted only where it fails.
 step() {
@@ -11,14 +28,15 @@ step() {
         echo "built $name"
     else
         echo "FAILED build of $name"
-        echo "$output" | tail -n 40
+        excerpt <<<"$output"
+        say_again
         failed=$((failed + 1))
     fi
 }
 
 # part NAME COMMAND..: runs it, shows its output and adds its counts.
 part() {
-    local name=$1 output status count
+    local name=$1 output status count bad
     shift
     output=$("$@" 2>&1)
     status=$?
@@ -28,16 +46,51 @@ part() {
         echo "$output"
         passed=$((passed + ${count%% *}))
         count=${count#*, }
-        failed=$((failed + ${count%% *}))
-        if [ "$status" -ne 0 ] && [ "${count%% *}" -eq 0 ]; then failed=$((failed + 1)); fi
+        bad=${count%% *}
+        if [ "$status" -ne 0 ] && [ "$bad" -eq 0 ]; then
+            echo "FAILED $name: status $status"
+            bad=1
+        fi
     elif [ "$status" -eq 0 ]; then
         echo "ok $name"
         passed=$((passed + 1))
+        bad=0
     else
-        echo "FAILED $name"
-        echo "$output" | tail -n 40
-        failed=$((failed + 1))
+        echo "FAILED $name: status $status"
+        excerpt <<<"$output"
+        bad=1
     fi
+    failed=$((failed + bad))
+    [ "$bad" -eq 0 ] || say_again
+}
+
+# begin NAME COMMAND..: starts a command beside the others, in a process group of its own, so that all of it can be ended.
+declare -A begun=()
+begin() {
+    local name=$1
+    shift
+    set -m
+    "$@" </dev/null >"$built/$name.log" 2>&1 &
+    begun[$name]=$!
+    set +m
+}
+
+# await NAME: waits for it. Then `replay NAME` prints what it printed, with its status.
+declare -A ended=()
+await() {
+    wait "${begun[$1]}"
+    ended[$1]=$?
+    unset "begun[$1]"
+}
+
+replay() {
+    cat "$built/$1.log"
+    return "${ended[$1]}"
+}
+
+end_begun() {
+    local pid
+    for pid in "${begun[@]}"; do kill -- "-$pid" 2>/dev/null; done
 }
 
 # Prints the sums as the last line; its status is the verdict.

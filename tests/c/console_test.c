@@ -1,12 +1,27 @@
 /* The console's entries as the console uses them: every area is a heap block of just its length, and answers are those
- * of document 01. Built with the address and undefined behaviour checks of the compiler. */
+ * of the specification.
+ *
+ * It is built twice. First with the compiler's address and undefined behaviour checks, which see this program alone: the
+ * library is not built with them, so that an area which is stated longer than it is would go unreported. Then without them,
+ * for valgrind's memcheck, which sees every read and write of the library too.
+ *
+ * usage: console_test [--only BLOCK] */
 #include "iscc.h"
 
+#include <inttypes.h>
+#include <signal.h>
 #include <stdbool.h>
 #include <stdio.h>
 #include <stdlib.h>
 #include <string.h>
 
+/* What to put before the program to run it as it is meant to be run. */
+#ifndef BY
+#define BY ""
+#endif
+
+static const char *program;
+static const char *block_name;
 static bool block_ok;
 static int passed;
 static int failed;
@@ -15,6 +30,13 @@ static void expect(bool holds, const char *what, const char *of) {
     if (holds) return;
     block_ok = false;
     printf("  %.40s: %s\n", of, what);
+}
+
+/* A number of an answer, by the name of its field. */
+static void expect_same(const char *field, size_t found, size_t due, const char *of) {
+    if (found == due) return;
+    block_ok = false;
+    printf("  %.40s: expected %s=%zu, found %s=%zu\n", of, field, due, field, found);
 }
 
 /* A heap block of just these bytes; null for none, which the calls take. */
@@ -41,8 +63,8 @@ static void intake_bytes(const char *text, size_t length, size_t area, uint32_t 
         if (area != 0) memset(out, fills[i], area);
         iscc_written answer = iscc_intake(typed, length, out, area);
         size_t due_length = number == 0 ? strlen(due) : 0;
-        expect(answer.number == number, "another number", text);
-        expect(answer.length == due_length, "another length", text);
+        expect_same("number", answer.number, number, text);
+        expect_same("length", answer.length, due_length, text);
         if (answer.length == due_length && due_length <= area) {
             if (due_length > 0) expect(memcmp(out, due, due_length) == 0, "another text", text);
             expect(all_are(out + due_length, area - due_length, fills[i]), "a byte that must stay was changed", text);
@@ -64,13 +86,13 @@ static uint32_t strict(const char *text) {
 static void written(const char *text, const char *due) {
     intake_bytes(text, strlen(text), ISCC_TEXT_AREA, ISCC_OK, due);
     intake_bytes(text, strlen(text), 100, ISCC_OK, due);
-    expect(strict(due) == ISCC_OK, "the strict door refuses the written text", due);
-    if (strcmp(text, due) != 0) expect(strict(text) == ISCC_OTHER_TEXT, "the strict door does not answer 16", text);
+    expect_same("number of the strict door", strict(due), ISCC_OK, due);
+    if (strcmp(text, due) != 0) expect_same("number of the strict door", strict(text), ISCC_OTHER_TEXT, text);
 }
 
 static void refused(const char *text, uint32_t number) {
     intake_bytes(text, strlen(text), ISCC_TEXT_AREA, number, NULL);
-    expect(strict(text) == number, "the strict door answers another number", text);
+    expect_same("number of the strict door", strict(text), number, text);
 }
 
 static void line_case(void) {
@@ -119,7 +141,7 @@ static void areas(void) {
         intake_bytes("", 0, too_short[i], ISCC_AREA_TOO_SHORT, NULL);
     }
     intake_bytes("", 0, ISCC_TEXT_AREA, ISCC_EMPTY_TEXT, NULL);
-    expect(iscc_strict(NULL, 0) == ISCC_EMPTY_TEXT, "another number", "null text");
+    expect_same("number", iscc_strict(NULL, 0), ISCC_EMPTY_TEXT, "null text");
 }
 
 static void long_texts(void) {
@@ -147,12 +169,21 @@ static iscc_distance_answer distance(const void *a, size_t a_len, const void *b,
     return answer;
 }
 
-static void no_distance(const void *a, size_t a_len, const void *b, size_t b_len, uint32_t number, const char *of) {
-    iscc_distance_answer answer = distance(a, a_len, b, b_len);
+/* The ratio by its bits, as the vectors have it. */
+static void expect_distance(iscc_distance_answer answer, uint32_t number, uint32_t d, uint32_t n, uint32_t ratio,
+                            const char *of) {
     uint32_t bits;
     memcpy(&bits, &answer.ratio, sizeof bits);
-    expect(answer.number == number, "another number", of);
-    expect(answer.d == 0 && answer.n == 0 && bits == 0, "a refusal with something else than zeros", of);
+    if (answer.number == number && answer.d == d && answer.n == n && bits == ratio) return;
+    block_ok = false;
+    printf("  %.40s: expected number=%" PRIu32 " d=%" PRIu32 " n=%" PRIu32 " ratio=%08" PRIx32 "\n", of, number, d, n, ratio);
+    printf("  %.40s: found    number=%" PRIu32 " d=%" PRIu32 " n=%" PRIu32 " ratio=%08" PRIx32 "\n", of, answer.number, answer.d,
+           answer.n, bits);
+}
+
+static void no_distance(const void *a, size_t a_len, const void *b, size_t b_len, uint32_t number, const char *of) {
+    iscc_distance_answer answer = distance(a, a_len, b, b_len);
+    expect_distance(answer, number, 0, 0, 0, of);
 }
 
 static void distances(void) {
@@ -160,10 +191,9 @@ static void distances(void) {
     const uint8_t longer[] = {0x30, 1, 0xff, 0, 0, 1, 9, 9, 9, 9}, left_over[] = {0x30, 0, 0, 0, 0, 0, 0};
     const uint8_t composite[] = {0x57, 0}, cut[] = {0x30, 0, 0, 0, 0}, instance[] = {0x40, 0, 0, 0, 0, 0};
     iscc_distance_answer answer = distance(data, sizeof data, other, sizeof other);
-    expect(answer.number == ISCC_OK && answer.d == 9 && answer.n == 32, "not 9 of 32", "distance");
-    expect(answer.ratio == 0.28125f, "the ratio is not 0.28125", "distance");
+    expect_distance(answer, ISCC_OK, 9, 32, 0x3e900000, "distance of 0.28125");
     answer = distance(data, sizeof data, longer, sizeof longer);
-    expect(answer.number == ISCC_OK && answer.d == 9 && answer.n == 32, "not the shorter body's bits", "distance");
+    expect_distance(answer, ISCC_OK, 9, 32, 0x3e900000, "distance over the shorter body");
     no_distance(data, sizeof data, meta, sizeof meta, ISCC_NO_DISTANCE, "two main types");
     no_distance(instance, sizeof instance, instance, sizeof instance, ISCC_NO_DISTANCE, "INSTANCE");
     no_distance(NULL, 0, NULL, 0, ISCC_BAD_HEADER, "null areas");
@@ -175,16 +205,18 @@ static void distances(void) {
 
 typedef iscc_written entry(const uint8_t *, size_t, uint8_t *, size_t);
 
-/* An entry on these bytes with an area of `area` bytes: it must answer `number` and, on success, write `due` and nothing behind. */
-static void writes(entry *call, const void *bytes, size_t length, size_t area, uint32_t number, const void *due, size_t due_length, const char *of) {
+/* An entry on these bytes with an area of `area` bytes: it must answer `number` and, on success, write `due` and nothing
+ * behind. */
+static void writes(entry *call, const void *bytes, size_t length, size_t area, uint32_t number, const void *due,
+                   size_t due_length, const char *of) {
     const uint8_t fills[] = {0x00, 0x5a, 0xff};
     for (size_t i = 0; i < sizeof fills; i++) {
         uint8_t *read = copy_of(bytes, length);
         uint8_t *out = area == 0 ? NULL : malloc(area);
         if (area != 0) memset(out, fills[i], area);
         iscc_written answer = call(read, length, out, area);
-        expect(answer.number == number, "another number", of);
-        expect(answer.length == due_length, "another length", of);
+        expect_same("number", answer.number, number, of);
+        expect_same("length", answer.length, due_length, of);
         if (answer.length == due_length && due_length <= area) {
             if (due_length > 0) expect(memcmp(out, due, due_length) == 0, "other bytes", of);
             expect(all_are(out + due_length, area - due_length, fills[i]), "a byte that must stay was changed", of);
@@ -229,23 +261,66 @@ static void codes(void) {
     refuses(iscc_split, units, 10, 20, ISCC_NOT_PERMITTED, "split of a unit");
 }
 
+static void say_again(void) {
+    printf("  run again: %s%s --only %s\n", BY, program, block_name);
+    fflush(stdout);
+}
+
+/* A call that crashes, or a report of the compiler's checks, ends the program: it still says in which block. */
+static void on_signal(int number) {
+    printf("FAILED console, %s: signal %d\n", block_name, number);
+    say_again();
+    _Exit(1);
+}
+
+#ifdef __SANITIZE_ADDRESS__
+void __sanitizer_set_death_callback(void (*callback)(void));
+#endif
+
+static void say_where_it_ends(void) {
+#ifdef __SANITIZE_ADDRESS__
+    (void)on_signal; /* the address check has its own, with more to tell */
+    __sanitizer_set_death_callback(say_again);
+#else
+    signal(SIGSEGV, on_signal);
+    signal(SIGBUS, on_signal);
+    signal(SIGILL, on_signal);
+#endif
+}
+
 static void block(const char *name, void (*run)(void)) {
+    block_name = name;
     block_ok = true;
     run();
     printf("%s console, %s\n", block_ok ? "ok" : "FAILED", name);
+    if (!block_ok) say_again();
     if (block_ok) passed++;
     else failed++;
 }
 
-int main(void) {
-    block("line case", line_case);
-    block("one unit", one_unit);
-    block("short texts", short_texts);
-    block("headers", headers);
-    block("areas", areas);
-    block("long texts", long_texts);
-    block("distances", distances);
-    block("codes", codes);
+static const struct {
+    const char *name;
+    void (*run)(void);
+} blocks[] = {
+    {"line_case", line_case},   {"one_unit", one_unit},   {"short_texts", short_texts}, {"headers", headers}, {"areas", areas},
+    {"long_texts", long_texts}, {"distances", distances}, {"codes", codes},
+};
+
+static int usage(void) {
+    fprintf(stderr, "usage: %s [--only BLOCK]\nblocks:", program);
+    for (size_t i = 0; i < sizeof blocks / sizeof *blocks; i++) fprintf(stderr, " %s", blocks[i].name);
+    fprintf(stderr, "\n");
+    return 2;
+}
+
+int main(int count, char **words) {
+    program = words[0];
+    if (count != 1 && !(count == 3 && strcmp(words[1], "--only") == 0)) return usage();
+    setvbuf(stdout, NULL, _IOLBF, BUFSIZ);
+    say_where_it_ends();
+    for (size_t i = 0; i < sizeof blocks / sizeof *blocks; i++)
+        if (count == 1 || strcmp(words[2], blocks[i].name) == 0) block(blocks[i].name, blocks[i].run);
+    if (passed + failed == 0) return usage();
     printf("%d passed, %d failed\n", passed, failed);
     return failed != 0;
 }

@@ -15,6 +15,9 @@ fn list(random: &mut Random, last: Vec<u8>) -> Vec<u8> {
     [unit.repeat(MEBIBYTE / unit.len()), last].concat()
 }
 
+/// How many requests there are.
+pub const COUNT: u64 = 21;
+
 pub fn requests(random: &mut Random) -> Vec<Request> {
     let mut requests = Vec::new();
     let mut add = |call, first: Vec<u8>| requests.push(Request { first, area: LONGEST, ..Request::new(call) });

@@ -4,9 +4,10 @@ use crate::random::Random;
 use crate::texts;
 use harness::tally::Tally;
 use std::io::{self, Write};
+use std::ops::Range;
 use std::process::{Command, Stdio};
 
-const INPUTS: u64 = 40;
+pub const INPUTS: u64 = 40;
 
 /// Texts, each with an LF behind it but perhaps the last; some are far longer than any buffer.
 fn input(random: &mut Random) -> Vec<u8> {
@@ -54,18 +55,19 @@ fn difference(program: &str, input: &[u8]) -> Option<String> {
     Some(format!("answer line {} differs, {} bytes for {} due", line + 1, found.len(), due.len()))
 }
 
-pub fn check(tally: &mut Tally, program: Option<&str>, seed: u64) {
-    let Some(program) = program else {
-        println!("missing: the line program was not compared");
-        return;
-    };
-    let mut lines = 0;
-    for case in 0..INPUTS {
+/// Compares the inputs of a range; each that differs is told, with the command that runs it again.
+pub fn check(tally: &mut Tally, program: &str, seed: u64, range: Range<u64>, again: &str) {
+    let (inputs, mut lines, mut differences) = (range.end - range.start, 0, Vec::new());
+    for case in range {
         let input = input(&mut Random::of_case(seed, u64::MAX, case));
         if let Some(difference) = difference(program, &input) {
-            return tally.check("compare lines", false, format!("input {case}: {difference}"));
+            differences.push(format!("\n input {case}: {difference}\n  run again: {again} lines {case}"));
         }
         lines += reference::lines::answers(&input).iter().filter(|&&byte| byte == b'\n').count();
     }
-    tally.check("compare lines", true, format!("{INPUTS} inputs, {lines} lines, no difference"));
+    let detail = match differences.is_empty() {
+        true => format!("{inputs} inputs, {lines} lines, no difference"),
+        false => format!("{} of {inputs} inputs{}", differences.len(), differences.concat()),
+    };
+    tally.check("compare lines", differences.is_empty(), detail);
 }

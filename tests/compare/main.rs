@@ -1,6 +1,4 @@
 //! Compares the linked libraries with the reference on random cases.
-//!
-//! usage: compare [--seed N] [--cases N] [--lines PROGRAM] [--only CALL CASE]
 
 mod cases;
 mod codes;
@@ -12,10 +10,23 @@ mod texts;
 use harness::call::{Call, Request};
 use harness::expected;
 use harness::fence::Side;
-use harness::library::{Library, Setting};
+use harness::library::{Case, Library, Setting};
+use harness::memcheck;
 use harness::tally::Tally;
+use harness::words::Words;
 use random::Random;
+use std::ops::Range;
 use std::process::ExitCode;
+
+const USAGE: &str = "usage: compare [--seed N] [--cases N] [--lines PROGRAM] [--only CALL CASE] [--memcheck]
+  --seed N          the seed of the cases (24138)
+  --cases N         how many cases in all (1000000)
+  --lines PROGRAM   the line program; without it no lines are compared
+  --only CALL CASE  one case of one call, or of large or lines, counted from 0
+  --memcheck        areas are heap blocks of just their length, for a run by tests/memcheck";
+
+/// A call with so many differences is left there.
+const MOST_DIFFERENCES: usize = 3;
 
 /// The part of all cases that goes to a call, in hundredths.
 fn share(call: Call) -> usize {
@@ -45,56 +56,95 @@ struct Options {
     cases: usize,
     lines: Option<String>,
     only: Option<(String, u64)>,
+    memcheck: bool,
+    /// The command that runs a case again, without the words that choose the case.
+    again: String,
 }
 
 fn options() -> Options {
-    let mut options = Options { seed: 24138, cases: 1_000_000, lines: None, only: None };
-    let mut words = std::env::args().skip(1);
-    while let Some(word) = words.next() {
-        let mut value = || words.next().unwrap_or_else(|| panic!("{word} wants a value"));
+    let mut words = Words::new(USAGE);
+    let again = String::new();
+    let mut options = Options { seed: 24138, cases: 1_000_000, lines: None, only: None, memcheck: false, again };
+    while let Some(word) = words.next_word() {
         match word.as_str() {
-            "--seed" => options.seed = value().parse().expect("a number"),
-            "--cases" => options.cases = value().parse().expect("a number"),
-            "--lines" => options.lines = Some(value()),
-            "--only" => options.only = Some((value(), value().parse().expect("a number"))),
-            _ => panic!("unknown: {word}"),
+            "--seed" => options.seed = words.number(&word),
+            "--cases" => options.cases = words.number(&word),
+            "--lines" => options.lines = Some(words.value(&word)),
+            "--only" => options.only = Some((words.value(&word), words.number(&word))),
+            "--memcheck" => options.memcheck = true,
+            _ => words.refuse(format!("no option is called '{word}'")),
         }
     }
+    if let Some(why) = fault(&options) {
+        words.refuse(why);
+    }
+    let by = if options.memcheck { "tests/memcheck " } else { "" };
+    let memcheck = if options.memcheck { " --memcheck" } else { "" };
+    let lines = options.lines.as_ref().map_or(String::new(), |program| format!(" --lines {program}"));
+    options.again = format!("{by}{}{memcheck}{lines} --seed {} --only", words.program, options.seed);
     options
+}
+
+/// What is wrong with options that can be read.
+fn fault(options: &Options) -> Option<String> {
+    let calls = Call::ALL.map(Call::name).join(" ");
+    let (name, case) = options.only.as_ref().map_or(("", 0), |(name, case)| (name.as_str(), *case));
+    match name {
+        _ if options.memcheck && !memcheck::runs() => Some("--memcheck is for a run by tests/memcheck".to_string()),
+        _ if options.cases == 0 => Some("--cases wants at least 1".to_string()),
+        "" if options.only.is_none() => None,
+        "lines" if options.lines.is_none() => Some("--only lines wants --lines PROGRAM".to_string()),
+        "lines" if case >= lines::INPUTS => Some(format!("there are {} inputs of lines, counted from 0", lines::INPUTS)),
+        "large" if case >= large::COUNT => Some(format!("there are {} large inputs, counted from 0", large::COUNT)),
+        "lines" | "large" => None,
+        _ if case == u64::MAX => Some("--only wants a smaller number".to_string()),
+        _ if Call::ALL.iter().any(|call| call.name() == name) => None,
+        _ => Some(format!("no call is called '{name}'; calls: {calls}, and large, lines")),
+    }
 }
 
 fn main() -> ExitCode {
     let options = options();
     println!("seed {}", options.seed);
-    let mut library = Library::new(large::LONGEST);
+    let again = options.again.clone();
+    let mut library = if options.memcheck { Library::on_heap(again) } else { Library::fenced(large::LONGEST, again) };
     let mut tally = Tally::default();
     for (index, call) in Call::ALL.into_iter().enumerate() {
-        let outcome = match &options.only {
-            Some((name, _)) if name != call.name() => continue,
-            Some((_, case)) => compare(&mut library, &options, call, index, *case..*case + 1),
-            None => compare(&mut library, &options, call, index, 0..(options.cases * share(call)).div_ceil(100) as u64),
-        };
-        report(&mut tally, call, &outcome);
+        if let Some(range) = range(&options, call.name(), options.cases.saturating_mul(share(call)).div_ceil(100) as u64) {
+            report(&mut tally, call, &compare(&mut library, options.seed, call, index, range));
+        }
     }
-    if options.only.is_none() {
-        large(&mut tally, &mut library, options.seed);
-        lines::check(&mut tally, options.lines.as_deref(), options.seed);
+    if let Some(range) = range(&options, "large", large::COUNT) {
+        large(&mut tally, &mut library, options.seed, range);
+    }
+    match (range(&options, "lines", lines::INPUTS), &options.lines) {
+        (Some(range), Some(program)) => lines::check(&mut tally, program, options.seed, range, &options.again),
+        (Some(_), None) if !options.memcheck => println!("missing: the line program was not compared"),
+        _ => (),
     }
     tally.finish()
 }
 
-fn compare(library: &mut Library, options: &Options, call: Call, index: usize, range: std::ops::Range<u64>) -> Outcome {
+/// The cases to run under a name, of which there are `count`.
+fn range(options: &Options, name: &str, count: u64) -> Option<Range<u64>> {
+    match &options.only {
+        None => Some(0..count),
+        Some((only, case)) => (only == name).then_some(*case..case + 1),
+    }
+}
+
+fn compare(library: &mut Library, seed: u64, call: Call, index: usize, range: Range<u64>) -> Outcome {
     let mut outcome = Outcome { cases: 0, differences: Vec::new(), seen: [0; 20] };
-    for case in range {
-        let mut random = Random::of_case(options.seed, index as u64, case);
+    for number in range {
+        let mut random = Random::of_case(seed, index as u64, number);
         let request = cases::request(&mut random, call);
-        let number = one(library, &request, &setting(&mut random)).unwrap_or_else(|difference| {
-            outcome.differences.push(format!("case {case}: {difference}"));
-            0
-        });
-        outcome.seen[number as usize] += 1;
+        match one(library, &Case { of: call.name(), number }, &request, &setting(&mut random)) {
+            Ok(answer) => outcome.seen[answer as usize] += 1,
+            Err(difference) => outcome.differences.push(difference),
+        }
         outcome.cases += 1;
-        if outcome.differences.len() == 3 {
+        if outcome.differences.len() == MOST_DIFFERENCES {
+            outcome.differences.push(format!("\n the cases behind {number} were not run"));
             break;
         }
     }
@@ -102,12 +152,21 @@ fn compare(library: &mut Library, options: &Options, call: Call, index: usize, r
 }
 
 /// Inputs of a mebibyte, a few for each call.
-fn large(tally: &mut Tally, library: &mut Library, seed: u64) {
+fn large(tally: &mut Tally, library: &mut Library, seed: u64, range: Range<u64>) {
     let requests = large::requests(&mut Random::of_case(seed, u64::MAX, u64::MAX));
-    let mut random = Random::of_case(seed, u64::MAX, 0);
-    let difference = requests.iter().find_map(|request| one(library, request, &setting(&mut random)).err());
-    let detail = difference.clone().unwrap_or(format!("{} cases, no difference", requests.len()));
-    tally.check("compare large inputs", difference.is_none(), detail);
+    assert_eq!(requests.len() as u64, large::COUNT);
+    let cases = range.end - range.start;
+    let differences: Vec<String> = range
+        .filter_map(|number| {
+            let setting = setting(&mut Random::of_case(seed, u64::MAX - 1, number));
+            one(library, &Case { of: "large", number }, &requests[number as usize], &setting).err()
+        })
+        .collect();
+    let detail = match differences.is_empty() {
+        true => format!("{cases} cases, no difference"),
+        false => format!("{} of {cases} cases{}", differences.len(), differences.concat()),
+    };
+    tally.check("compare large inputs", differences.is_empty(), detail);
 }
 
 fn setting(random: &mut Random) -> Setting {
@@ -116,21 +175,19 @@ fn setting(random: &mut Random) -> Setting {
     Setting { side, null: random.percent(50), filling: random.bytes(length) }
 }
 
-/// The number of the answer that both agree on, or the case with both answers.
-fn one(library: &mut Library, request: &Request, setting: &Setting) -> Result<u32, String> {
+/// The number of the answer that the reference and the library agree on, or the case with both answers.
+fn one(library: &mut Library, case: &Case, request: &Request, setting: &Setting) -> Result<u32, String> {
     let due = expected::answer(request);
-    let found = library.answer(request, setting);
-    if found.as_ref() == Ok(&due) {
-        return Ok(due.number);
+    match library.differs(case, request, &due, setting) {
+        None => Ok(due.number),
+        Some(difference) => Err(format!("\n case {}: {difference}", case.number)),
     }
-    let found = found.map_or_else(|fault| fault, |response| response.to_string());
-    Err(format!("\n  {request}\n  reference {due}\n  library   {found}"))
 }
 
 fn report(tally: &mut Tally, call: Call, outcome: &Outcome) {
     let name = format!("compare {}", call.name());
     if !outcome.differences.is_empty() {
-        return tally.check(&name, false, outcome.differences.join("\n"));
+        return tally.check(&name, false, outcome.differences.concat());
     }
     // Cases that never bring out a refusal would test nothing of it.
     let few: Vec<u32> =

@@ -55,7 +55,24 @@ impl Call {
         }
     }
 
-    /// Every number that document 01 lets the call answer, success first.
+    /// What the call reads, by the names that the vectors' README has for it.
+    fn reads(self) -> (Option<&'static str>, Option<&'static str>) {
+        match self {
+            Call::Intake | Call::Strict | Call::Code | Call::Base32Read => (Some("text"), None),
+            Call::Text => (Some("code"), None),
+            Call::Distance => (Some("a"), Some("b")),
+            Call::HeaderWrite => (None, None),
+            Call::UnitWrite => (None, Some("body")),
+            Call::Base32Write | Call::HeaderRead | Call::UnitRead | Call::Join | Call::Split => (Some("bytes"), None),
+        }
+    }
+
+    /// Whether the call writes to an output area.
+    pub fn writes(self) -> bool {
+        !matches!(self, Call::Strict | Call::Distance | Call::HeaderRead | Call::UnitRead)
+    }
+
+    /// Every number that the specification lets the call answer, success first.
     pub fn numbers(self) -> &'static [u32] {
         match self {
             Call::Intake => &[0, 1, 2, 3, 4, 5, 6, 7, 8, 9, 10, 11, 12, 13, 14, 15],
@@ -95,10 +112,24 @@ impl Request {
     }
 }
 
+/// The arguments by name, as the vectors have them.
 impl fmt::Display for Request {
     fn fmt(&self, f: &mut fmt::Formatter<'_>) -> fmt::Result {
-        let (first, second) = (hex::encode(&self.first), hex::encode(&self.second));
-        write!(f, "{} area {} header {:?} first {first} second {second}", self.call.name(), self.area, self.header)
+        f.write_str(self.call.name())?;
+        if self.call.writes() {
+            write!(f, " area={}", self.area)?;
+        }
+        if matches!(self.call, Call::HeaderWrite | Call::UnitWrite) {
+            let [main_type, subtype, version, length] = self.header;
+            write!(f, " main_type={main_type} subtype={subtype} version={version} length={length}")?;
+        }
+        let (first, second) = self.call.reads();
+        for (name, bytes) in [(first, &self.first), (second, &self.second)] {
+            if let Some(name) = name {
+                write!(f, " {name}={}", hex::shown(bytes))?;
+            }
+        }
+        Ok(())
     }
 }
 
@@ -118,10 +149,18 @@ impl Response {
     pub fn written(bytes: Vec<u8>) -> Response {
         Response { values: [bytes.len() as u64, 0, 0, 0, 0], written: bytes, ..Response::default() }
     }
-}
 
-impl fmt::Display for Response {
-    fn fmt(&self, f: &mut fmt::Formatter<'_>) -> fmt::Result {
-        write!(f, "number {} values {:?} written {}", self.number, self.values, hex::encode(&self.written))
+    /// The call's answer by name, as the vectors have it.
+    pub fn shown(&self, call: Call) -> String {
+        let number = self.number;
+        let [a, b, c, d, e] = self.values;
+        match call {
+            Call::Strict => format!("number={number}"),
+            Call::Distance => format!("number={number} d={a} n={b} ratio={c:08x}"),
+            Call::HeaderRead | Call::UnitRead => {
+                format!("number={number} main_type={a} subtype={b} version={c} length={d} used={e}")
+            }
+            _ => format!("number={number} length={a} written={}", hex::shown(&self.written)),
+        }
     }
 }

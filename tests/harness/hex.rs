@@ -7,6 +7,15 @@ pub fn encode(bytes: &[u8]) -> String {
     bytes.iter().map(|byte| format!("{byte:02x}")).collect()
 }
 
+/// As `encode`, but of a long string only the beginning: a mebibyte helps nobody to read on.
+pub fn shown(bytes: &[u8]) -> String {
+    const MOST: usize = 4096;
+    match bytes.len().checked_sub(MOST) {
+        None | Some(0) => encode(bytes),
+        Some(more) => format!("{}(and {more} more bytes)", encode(&bytes[..MOST])),
+    }
+}
+
 pub fn decode(text: &str) -> Option<Vec<u8>> {
     if text == "-" {
         return Some(Vec::new());

@@ -1,8 +1,11 @@
-//! What the outside tests share: the eleven public calls as data, the library's answer to one, and the reference's.
+//! What the outside tests share: the public calls as data, the library's answer to one, and the reference's.
 
 pub mod call;
 pub mod expected;
 pub mod fence;
 pub mod hex;
 pub mod library;
+pub mod memcheck;
+pub mod room;
 pub mod tally;
+pub mod words;

@@ -1,7 +1,11 @@
-//! The C entries of the linked libraries, called on fenced areas; every byte that a call must keep is looked at.
+//! The C entries of the linked libraries, called on areas of just their length; every byte that a call must keep is
+//! looked at.
 
 use crate::call::{Call, Request, Response};
 use crate::fence::{Fence, Side};
+use crate::memcheck;
+use crate::room::Room;
+use std::fmt;
 use std::sync::atomic::{AtomicPtr, Ordering};
 
 #[repr(C)]
@@ -58,17 +62,38 @@ extern "C" {
     fn _exit(status: i32) -> !;
 }
 
-/// The request under way, for the message where a call touches memory outside its areas.
-static UNDER_WAY: AtomicPtr<Request> = AtomicPtr::new(std::ptr::null_mut());
+/// What is under way, for the message where a call touches memory outside its areas.
+static UNDER_WAY: AtomicPtr<UnderWay<'static>> = AtomicPtr::new(std::ptr::null_mut());
+
+struct UnderWay<'a> {
+    request: &'a Request,
+    case: &'a Case<'a>,
+    again: &'a str,
+}
 
 extern "C" fn touched(_: i32) {
-    let request = UNDER_WAY.load(Ordering::Relaxed);
-    // Set before each call to a request that outlives it. The program ends here.
+    let under_way = UNDER_WAY.load(Ordering::Relaxed);
+    // Set for each call, to what outlives it. The program ends here.
     unsafe {
-        if let Some(request) = request.as_ref() {
-            println!("FAILED memory outside the lent areas was touched\n  {request}\n0 passed, 1 failed");
+        if let Some(UnderWay { request, case, again }) = under_way.as_ref() {
+            println!("FAILED memory outside the lent areas was touched\n  {request}");
+            println!("  run again: {again} {case}\n0 passed, 1 failed");
+        } else {
+            println!("FAILED the test program itself touched memory that is not its own\n0 passed, 1 failed");
         }
         _exit(1)
+    }
+}
+
+/// The words that choose one case: a table and its line, a call and its case, a block of labels and its label.
+pub struct Case<'a> {
+    pub of: &'a str,
+    pub number: u64,
+}
+
+impl fmt::Display for Case<'_> {
+    fn fmt(&self, f: &mut fmt::Formatter<'_>) -> fmt::Result {
+        write!(f, "{} {}", self.of, self.number)
     }
 }
 
@@ -82,16 +107,27 @@ pub struct Setting {
     pub filling: Vec<u8>,
 }
 
-/// The linked libraries, with memory for the areas of one call.
+/// The linked libraries, with room for the areas of one call.
 pub struct Library {
-    first: Fence,
-    second: Fence,
-    out: Fence,
+    first: Room,
+    second: Room,
+    out: Room,
+    /// The command that runs a case again, without the words that choose the case.
+    again: String,
 }
 
 impl Library {
-    /// For areas of up to `longest` bytes.
-    pub fn new(longest: usize) -> Library {
+    /// On fenced areas of up to `longest` bytes.
+    pub fn fenced(longest: usize, again: String) -> Library {
+        Library::over(|| Room::Fenced(Fence::new(longest)), again)
+    }
+
+    /// On heap blocks, for a run under memcheck.
+    pub fn on_heap(again: String) -> Library {
+        Library::over(|| Room::Heap(Box::default()), again)
+    }
+
+    fn over(room: impl Fn() -> Room, again: String) -> Library {
         const ILLEGAL: i32 = 4;
         const BUS: i32 = 7;
         const SEGMENT: i32 = 11;
@@ -99,15 +135,37 @@ impl Library {
             // The handler only prints and ends the program.
             unsafe { signal(number, touched) };
         }
-        Library { first: Fence::new(longest), second: Fence::new(longest), out: Fence::new(longest) }
+        Library { first: room(), second: room(), out: room(), again }
     }
 
-    /// Makes the call; an error tells which byte was changed that the call must keep.
-    pub fn answer(&mut self, request: &Request, setting: &Setting) -> Result<Response, String> {
+    /// The line that tells how to run a case again.
+    pub fn again(&self, case: &Case) -> String {
+        format!("run again: {} {case}", self.again)
+    }
+
+    /// Nothing where the call answers what is due; else the case, both answers and the command.
+    pub fn differs(&mut self, case: &Case, request: &Request, due: &Response, setting: &Setting) -> Option<String> {
+        let found = self.answer(case, request, setting);
+        if found.as_ref() == Ok(due) {
+            return None;
+        }
+        let found = found.map_or_else(|fault| fault, |response| response.shown(request.call));
+        let (due, again) = (due.shown(request.call), self.again(case));
+        Some(format!("\n  {request}\n  expected {due}\n  found    {found}\n  {again}"))
+    }
+
+    /// What the call writes; an error is told as a difference is.
+    pub fn written(&mut self, case: &Case, request: &Request, setting: &Setting) -> Result<Vec<u8>, String> {
+        let found = self.answer(case, request, setting).map(|response| response.written);
+        found.map_err(|fault| format!("\n  {request}\n  found    {fault}\n  {}", self.again(case)))
+    }
+
+    /// Makes the call; an error tells what it did that it must not.
+    fn answer(&mut self, case: &Case, request: &Request, setting: &Setting) -> Result<Response, String> {
         let Setting { side, null, filling } = setting;
         let before: Vec<u8> = filling.iter().copied().cycle().take(request.area).collect();
-        let lend = |fence: &mut Fence, bytes: &[u8]| {
-            let pointer = fence.lay(bytes, *side);
+        let lend = |room: &mut Room, bytes: &[u8]| {
+            let pointer = room.lay(bytes, *side);
             if *null && bytes.is_empty() {
                 std::ptr::null_mut()
             } else {
@@ -117,33 +175,41 @@ impl Library {
         let first = lend(&mut self.first, &request.first);
         let second = lend(&mut self.second, &request.second);
         let out = lend(&mut self.out, &before);
-        UNDER_WAY.store(request as *const Request as *mut Request, Ordering::Relaxed);
+        let errors = memcheck::errors();
+        memcheck::make_undefined(self.out.area());
+        let mut under_way = UnderWay { request, case, again: &self.again };
+        UNDER_WAY.store(std::ptr::from_mut(&mut under_way).cast(), Ordering::Relaxed);
         // The three areas are as long as said and do not overlap.
         let mut response = unsafe { enter(request, first, second, out) };
+        UNDER_WAY.store(std::ptr::null_mut(), Ordering::Relaxed);
         self.look(request, &before, &mut response)?;
+        if memcheck::errors() != errors {
+            return Err(format!("memcheck reports errors, printed above; {}", response.shown(request.call)));
+        }
         Ok(response)
     }
 
     /// Takes the written bytes over into the response and sees that all others are as before.
     fn look(&mut self, request: &Request, before: &[u8], response: &mut Response) -> Result<(), String> {
-        if self.first.area() != request.first || self.second.area() != request.second {
-            return Err(format!("an area lent for reading was changed; {response}"));
-        }
-        if !(self.first.kept() && self.second.kept() && self.out.kept()) {
-            return Err(format!("a byte beside an area was changed; {response}"));
-        }
-        let writes = !matches!(request.call, Call::Strict | Call::Distance | Call::HeaderRead | Call::UnitRead);
-        let length = if writes && response.number == 0 { response.values[0] as usize } else { 0 };
+        let length = if request.call.writes() && response.number == 0 { response.values[0] as usize } else { 0 };
         if length > before.len() {
-            return Err(format!("the length is beyond the area; {response}"));
+            return Err(format!("the length is beyond the area; {}", response.shown(request.call)));
         }
         let after = self.out.area();
-        if after[length..] != before[length..] {
-            let at = (length..before.len()).find(|&at| after[at] != before[at]).unwrap();
-            return Err(format!("byte {at} of the output area was changed; {response}"));
-        }
+        memcheck::check_defined(&after[..length]);
+        memcheck::make_defined(after);
         response.written = after[..length].to_vec();
-        Ok(())
+        let changed = (length..before.len()).find(|&at| after[at] != before[at]);
+        let fault = if let Some(at) = changed {
+            format!("the byte at offset {at} of the output area was changed")
+        } else if self.first.area() != request.first || self.second.area() != request.second {
+            "an area lent for reading was changed".to_string()
+        } else if !(self.first.kept() && self.second.kept() && self.out.kept()) {
+            "a byte beside an area was changed".to_string()
+        } else {
+            return Ok(());
+        };
+        Err(format!("{fault}; {}", response.shown(request.call)))
     }
 }
 

@@ -1,26 +1,35 @@
-//! The labels of document 01 and the published examples of the reference library, through the linked libraries.
+//! The labels of the specification and the published examples of the reference library, through the linked libraries.
 
 use harness::call::{Call, Request, Response};
 use harness::fence::Side;
 use harness::hex;
-use harness::library::{Library, Setting};
+use harness::library::{Case, Library, Setting};
 use harness::tally::Tally;
+use harness::words::Words;
 use std::process::ExitCode;
+
+const USAGE: &str = "usage: run_labels [--only BLOCK LABEL]
+  --only BLOCK LABEL  one label of one block, counted from 1";
 
 /// Runs requests and says what did not answer as written beside it.
 struct Labels {
     library: Library,
+    /// The block under way, and how many of its labels were met.
+    block: &'static str,
+    met: u64,
+    only: Option<u64>,
     faults: Vec<String>,
 }
 
 impl Labels {
     fn expect(&mut self, request: Request, due: Response) {
-        let setting = Setting { side: Side::Right, null: true, filling: vec![0xee] };
-        let found = self.library.answer(&request, &setting);
-        if found.as_ref() != Ok(&due) {
-            let found = found.map_or_else(|fault| fault, |response| response.to_string());
-            self.faults.push(format!("\n  {request}\n  expected {due}\n  found    {found}"));
+        self.met += 1;
+        if self.only.is_some_and(|only| only != self.met) {
+            return;
         }
+        let case = Case { of: self.block, number: self.met };
+        let setting = Setting { side: Side::Right, null: true, filling: vec![0xee] };
+        self.faults.extend(self.library.differs(&case, &request, &due, &setting));
     }
 
     /// Intake on an area of just 73 bytes writes this text.
@@ -132,7 +141,7 @@ fn rfc_4648(labels: &mut Labels) {
     }
 }
 
-/// What documents 002 and 003 print of the reference library, as document 01 reads it.
+/// What the reference library's documents print, as the specification reads it.
 fn published(labels: &mut Labels) {
     labels.written("MEACB7X7777574L6", "ISCC:MEACB7X7777574L6");
     labels.written("ISCC:MEACB7X7777574L6", "ISCC:MEACB7X7777574L6");
@@ -143,24 +152,53 @@ fn published(labels: &mut Labels) {
     labels.refused("fcc010001657fe7cafe9791bb", 4);
 }
 
+const BLOCKS: [(&str, fn(&mut Labels)); 8] = [
+    ("varnibbles", varnibbles),
+    ("headers", headers),
+    ("line_case", line_case),
+    ("one_unit", one_unit),
+    ("short_texts", short_texts),
+    ("distance", distance),
+    ("rfc_4648", rfc_4648),
+    ("published", published),
+];
+
+/// The program as it was called, and the one label to run.
+fn options() -> (String, Option<(String, u64)>) {
+    let mut words = Words::new(USAGE);
+    let mut only = None;
+    while let Some(word) = words.next_word() {
+        match word.as_str() {
+            "--only" => only = Some((words.value(&word), words.number(&word))),
+            _ => words.refuse(format!("no option is called '{word}'")),
+        }
+    }
+    let names = BLOCKS.map(|(name, _)| name);
+    if let Some((block, _)) = only.as_ref().filter(|(block, _)| !names.contains(&block.as_str())) {
+        words.refuse(format!("no block is called '{block}'; blocks: {}", names.join(" ")));
+    }
+    (words.program, only)
+}
+
 fn main() -> ExitCode {
-    let blocks: [(&str, fn(&mut Labels)); 8] = [
-        ("varnibbles", varnibbles),
-        ("headers", headers),
-        ("line case", line_case),
-        ("one unit", one_unit),
-        ("short texts", short_texts),
-        ("distance", distance),
-        ("RFC 4648", rfc_4648),
-        ("published examples", published),
-    ];
-    let mut labels = Labels { library: Library::new(1 << 16), faults: Vec::new() };
+    let (program, only) = options();
+    let library = Library::fenced(1 << 16, format!("{program} --only"));
+    let mut labels = Labels { library, block: "", met: 0, only: only.as_ref().map(|only| only.1), faults: Vec::new() };
     let mut tally = Tally::default();
-    for (name, block) in blocks {
+    for (name, block) in BLOCKS {
+        if only.as_ref().is_some_and(|(only, _)| only != name) {
+            continue;
+        }
+        (labels.block, labels.met) = (name, 0);
         block(&mut labels);
         let faults = std::mem::take(&mut labels.faults);
-        let detail = if faults.is_empty() { "as written".to_string() } else { faults.concat() };
-        tally.check(&format!("labels, {name}"), faults.is_empty(), detail);
+        let none = labels.met == 0 || labels.only.is_some_and(|only| only == 0 || only > labels.met);
+        let detail = match (none, faults.is_empty()) {
+            (true, _) => format!("no such label; there are {}", labels.met),
+            (false, true) => "as written".to_string(),
+            (false, false) => faults.concat(),
+        };
+        tally.check(&format!("labels, {name}"), !none && faults.is_empty(), detail);
     }
     tally.finish()
 }

@@ -1,49 +1,119 @@
 //! Runs every vector file through the linked libraries, and the line files through the line program.
-//!
-//! usage: run_vectors FOLDER [LINE-PROGRAM]
 
 use harness::call::{Call, Request, Response};
 use harness::fence::Side;
 use harness::hex;
-use harness::library::{Library, Setting};
+use harness::library::{Case, Library, Setting};
 use harness::tally::Tally;
+use harness::words::Words;
 use std::fs::{self, File};
 use std::io::{self, Write};
 use std::path::{Path, PathBuf};
 use std::process::{Command, ExitCode, Stdio};
 
+const USAGE: &str = "usage: run_vectors FOLDER [--lines PROGRAM] [--only TABLE.tsv LINE | --only FILE.in]
+  FOLDER              the folder of the vectors
+  --lines PROGRAM     the line program; without it the line files are not run
+  --only TABLE LINE   one line of one table, counted from 1
+  --only FILE.in      one line file";
+
 /// The longest area of the vectors is far below this.
 const LONGEST: usize = 1 << 20;
 
+/// Of more bad lines than these only the count is printed.
+const MOST_PRINTED: usize = 20;
+
+/// The one thing to run.
+enum Only {
+    Line(String, u64),
+    File(String),
+}
+
+struct Options {
+    folder: PathBuf,
+    lines: Option<String>,
+    only: Option<Only>,
+    /// The command that runs a part of this again, without the words that choose the part.
+    again: String,
+}
+
+fn options() -> Options {
+    let mut words = Words::new(USAGE);
+    let (mut folder, mut lines, mut only) = (None, None, None);
+    while let Some(word) = words.next_word() {
+        match word.as_str() {
+            "--lines" => lines = Some(words.value(&word)),
+            "--only" => {
+                let name = words.value(&word);
+                only = Some(if name.ends_with(".in") { Only::File(name) } else { Only::Line(name, words.number(&word)) });
+            }
+            _ if word.starts_with('-') => words.refuse(format!("no option is called '{word}'")),
+            _ if folder.is_some() => words.refuse(format!("one folder is enough: '{word}'")),
+            _ => folder = Some(PathBuf::from(word)),
+        }
+    }
+    let Some(folder) = folder.filter(|folder| folder.is_dir()) else { words.refuse("FOLDER is missing or no folder") };
+    match &only {
+        Some(Only::Line(name, line)) if !has_line(&folder, name, *line) => {
+            words.refuse(format!("no table '{name}' with a line {line} of columns; tables: {}", tables().join(" ")))
+        }
+        Some(Only::File(name)) if lines.is_none() => words.refuse(format!("--only {name} wants --lines PROGRAM")),
+        Some(Only::File(name)) if !names(&folder, ".in").contains(name) => words.refuse(format!("no line file '{name}'")),
+        _ => (),
+    }
+    let with_lines = lines.as_ref().map_or(String::new(), |program| format!(" --lines {program}"));
+    let again = format!("{} {}{with_lines} --only", words.program, folder.display());
+    Options { folder, lines, only, again }
+}
+
+/// The tables that calls have.
+fn tables() -> Vec<String> {
+    Call::ALL.into_iter().filter(|&call| has_table(call)).map(table_name).collect()
+}
+
+fn table_name(call: Call) -> String {
+    format!("{}.tsv", call.name())
+}
+
+/// Whether a table of a call has this line, and no comment there.
+fn has_line(folder: &Path, name: &str, line: u64) -> bool {
+    let table = if tables().iter().any(|known| known == name) { fs::read_to_string(folder.join(name)) } else { return false };
+    let at = line.checked_sub(1).and_then(|at| usize::try_from(at).ok());
+    at.zip(table.ok()).is_some_and(|(at, table)| table.lines().nth(at).is_some_and(|text| !text.starts_with('#')))
+}
+
 fn main() -> ExitCode {
-    let mut words = std::env::args().skip(1);
-    let folder = PathBuf::from(words.next().expect("usage: run_vectors FOLDER [LINE-PROGRAM]"));
+    let options = options();
     let mut tally = Tally::default();
-    call_files(&folder, &mut tally);
-    line_files(&folder, words.next(), &mut tally);
+    if !matches!(options.only, Some(Only::File(_))) {
+        call_files(&options, &mut tally);
+    }
+    if !matches!(options.only, Some(Only::Line(..))) {
+        line_files(&options, &mut tally);
+    }
     tally.finish()
 }
 
-/// One check for each call's file, and one that no other table stands in the folder unread.
-fn call_files(folder: &Path, tally: &mut Tally) {
-    let mut library = Library::new(LONGEST);
-    let table = |call: Call| fs::read_to_string(folder.join(format!("{}.tsv", call.name()))).map_err(|error| error.to_string());
-    for call in Call::ALL.into_iter().filter(|&call| has_table(call)) {
-        let found = table(call).and_then(|table| run_table(&table, &mut library, |line| parse(call, line), answers));
-        report(tally, &format!("{}.tsv", call.name()), found);
+/// One check for each call's file and for each other use of a file, and one that no other table stands in the folder unread.
+fn call_files(options: &Options, tally: &mut Tally) {
+    let mut library = Library::fenced(LONGEST, options.again.clone());
+    let own = Call::ALL.into_iter().filter(|&call| has_table(call)).map(|call| (call, "", answers as Check));
+    let others: [(Call, &str, Check); 2] =
+        [(Call::Intake, " through the code", through_code), (Call::UnitRead, " as one code", as_one_code)];
+    for (call, use_of, check) in own.chain(others) {
+        let name = table_name(call);
+        let only = match &options.only {
+            Some(Only::Line(table, _)) if *table != name => continue,
+            Some(Only::Line(_, line)) => Some(*line),
+            _ => None,
+        };
+        let table = fs::read_to_string(options.folder.join(&name)).map_err(|error| error.to_string());
+        let found = table.and_then(|table| run_table(&table, call, only, &mut library, check));
+        report(tally, &format!("{name}{use_of}"), found);
     }
-    let intake = |line: &str| parse(Call::Intake, line);
-    let found = table(Call::Intake).and_then(|table| run_table(&table, &mut library, intake, through_code));
-    report(tally, "intake.tsv through the code", found);
-    let units = |line: &str| parse(Call::UnitRead, line);
-    let found = table(Call::UnitRead).and_then(|table| run_table(&table, &mut library, units, as_one_code));
-    report(tally, "unit_read.tsv as one code", found);
-    let unread: Vec<String> = names(folder, ".tsv")
-        .into_iter()
-        .filter(|name| Call::ALL.iter().all(|&call| !has_table(call) || format!("{}.tsv", call.name()) != *name))
-        .collect();
+    let unread: Vec<String> = names(&options.folder, ".tsv").into_iter().filter(|name| !tables().contains(name)).collect();
     if !unread.is_empty() {
-        tally.check("tables", false, format!("no call reads {unread:?}"));
+        tally.check("tables", false, format!("no call reads {}", unread.join(" ")));
     }
 }
 
@@ -69,66 +139,76 @@ fn has_table(call: Call) -> bool {
     !matches!(call, Call::Code | Call::Text)
 }
 
-/// What a line of a table asks of the library under one setting; an error tells the difference.
-type Check = fn(&mut Library, &Request, &Response, &Setting) -> Result<(), String>;
+/// What a line of a table asks of the library under one setting; something where it differs.
+type Check = fn(&mut Library, &Case, &Request, &Response, &Setting) -> Option<String>;
 
-fn answers(library: &mut Library, request: &Request, due: &Response, setting: &Setting) -> Result<(), String> {
-    let found = library.answer(request, setting);
-    if found.as_ref() == Ok(due) {
-        return Ok(());
-    }
-    let found = found.map_or_else(|fault| fault, |response| response.to_string());
-    Err(format!("\n  {request}\n  expected {due}\n  found    {found}"))
+fn answers(library: &mut Library, case: &Case, request: &Request, due: &Response, setting: &Setting) -> Option<String> {
+    library.differs(case, request, due, setting)
 }
 
 /// The code of a text refuses as intake does but for the area, and the text of the code is what intake writes.
-fn through_code(library: &mut Library, request: &Request, due: &Response, setting: &Setting) -> Result<(), String> {
+fn through_code(library: &mut Library, case: &Case, request: &Request, due: &Response, setting: &Setting) -> Option<String> {
     let code = |area| Request { first: request.first.clone(), area, ..Request::new(Call::Code) };
-    answers(library, &code(41), &Response::refused(15), setting)?;
-    if due.number == 15 {
-        return Ok(());
+    let too_short = library.differs(case, &code(41), &Response::refused(15), setting);
+    if too_short.is_some() || due.number == 15 {
+        return too_short;
     }
     if due.number != 0 {
-        return answers(library, &code(42), due, setting);
+        return library.differs(case, &code(42), due, setting);
     }
-    let found = library.answer(&code(42), setting)?;
-    let text = |area| Request { first: found.written.clone(), area, ..Request::new(Call::Text) };
-    answers(library, &text(72), &Response::refused(15), setting)?;
-    answers(library, &text(73), due, setting)
+    let found = match library.written(case, &code(42), setting) {
+        Ok(found) => found,
+        Err(fault) => return Some(fault),
+    };
+    let text = |area| Request { first: found.clone(), area, ..Request::new(Call::Text) };
+    let too_short = library.differs(case, &text(72), &Response::refused(15), setting);
+    too_short.or_else(|| library.differs(case, &text(73), due, setting))
 }
 
 /// The text of bytes is refused as the reader of one unit says, and with 19 where it leaves bytes over; else it reads back.
-fn as_one_code(library: &mut Library, request: &Request, due: &Response, setting: &Setting) -> Result<(), String> {
+fn as_one_code(library: &mut Library, case: &Case, request: &Request, due: &Response, setting: &Setting) -> Option<String> {
     let text = Request { first: request.first.clone(), area: 73, ..Request::new(Call::Text) };
     let left = due.number == 0 && due.values[4] < request.first.len() as u64;
     if due.number != 0 || left {
-        return answers(library, &text, &Response::refused(if left { 19 } else { due.number }), setting);
+        return library.differs(case, &text, &Response::refused(if left { 19 } else { due.number }), setting);
     }
-    let found = library.answer(&text, setting)?;
-    let code = Request { first: found.written, area: 42, ..Request::new(Call::Code) };
-    answers(library, &code, &Response::written(request.first.clone()), setting)
+    let found = match library.written(case, &text, setting) {
+        Ok(found) => found,
+        Err(fault) => return Some(fault),
+    };
+    let code = Request { first: found, area: 42, ..Request::new(Call::Code) };
+    library.differs(case, &code, &Response::written(request.first.clone()), setting)
 }
 
-/// Runs each line of a table under every setting; tells how many lines, or the first that differs.
-fn run_table(
-    table: &str,
-    library: &mut Library,
-    parse: impl Fn(&str) -> Option<(Request, Response)>,
-    check: Check,
-) -> Result<String, String> {
-    let settings = settings();
+/// Runs each line of a table, or only one, under every setting; tells how many lines, or all that differ.
+fn run_table(table: &str, call: Call, only: Option<u64>, library: &mut Library, check: Check) -> Result<String, String> {
+    let (settings, name) = (settings(), table_name(call));
     let mut lines = 0;
-    for (at, line) in table.lines().enumerate().filter(|(_, line)| !line.starts_with('#')) {
-        let (request, due) = parse(line).ok_or(format!("line {} cannot be read", at + 1))?;
-        for setting in &settings {
-            check(library, &request, &due, setting).map_err(|difference| format!("line {}: {difference}", at + 1))?;
+    let mut bad = Vec::new();
+    for (number, line) in (1..).zip(table.lines()) {
+        if line.starts_with('#') || only.is_some_and(|only| only != number) {
+            continue;
         }
+        let case = Case { of: &name, number };
+        let difference = match parse(call, line) {
+            None => Some(format!("cannot be read\n  {}", library.again(&case))),
+            Some((request, due)) => settings.iter().find_map(|setting| check(library, &case, &request, &due, setting)),
+        };
+        bad.extend(difference.map(|difference| format!("\n line {number}: {difference}")));
         lines += 1;
     }
     if lines == 0 {
         return Err("no line".to_string());
     }
-    Ok(format!("{lines} lines, each under {} settings", settings.len()))
+    if bad.is_empty() {
+        return Ok(format!("{lines} lines, each under {} settings", settings.len()));
+    }
+    let more = match bad.len().saturating_sub(MOST_PRINTED) {
+        0 => String::new(),
+        more => format!("\n and {more} more lines"),
+    };
+    let printed = &bad[..bad.len().min(MOST_PRINTED)];
+    Err(format!("{} of {lines} lines differ{}{more}", bad.len(), printed.concat()))
 }
 
 /// Three fillings, both sides, and empty areas as null or not.
@@ -158,7 +238,7 @@ impl Columns<'_> {
         u64::from_str_radix(self.0.next()?, 16).ok()
     }
 
-    /// The column `told`, which is 0 in document 01.
+    /// The column `told`, which is 0 throughout.
     fn told(&mut self) -> Option<()> {
         (self.number::<u64>()? == 0).then_some(())
     }
@@ -229,18 +309,21 @@ fn parse_response(request: &Request, columns: &mut Columns) -> Option<Response> 
 }
 
 /// One check for each pair of line files. Without a program none is counted, and the output says so.
-fn line_files(folder: &Path, program: Option<String>, tally: &mut Tally) {
-    let inputs = names(folder, ".in");
-    let Some(program) = program else {
+fn line_files(options: &Options, tally: &mut Tally) {
+    let mut inputs = names(&options.folder, ".in");
+    let Some(program) = &options.lines else {
         println!("missing: the line program; {} line files were not run", inputs.len());
         return;
     };
     if inputs.is_empty() {
         tally.check("line files", false, "none");
     }
+    if let Some(Only::File(only)) = &options.only {
+        inputs.retain(|name| name == only);
+    }
     for name in inputs {
-        let input = folder.join(&name);
-        let found = run_lines(&program, &input).map_err(|error| format!("{program}: {error}"));
+        let found = run_lines(program, &options.folder.join(&name));
+        let found = found.map_err(|error| format!("{program}: {error}\n  run again: {} {name}", options.again));
         report(tally, &name, found);
     }
 }
@@ -259,7 +342,7 @@ fn run_lines(program: &str, input: &Path) -> io::Result<String> {
     for (way, output) in &outputs {
         if !output.status.success() || output.stdout != expected {
             let at = output.stdout.iter().zip(&expected).take_while(|(a, b)| a == b).count();
-            return Err(io::Error::other(format!("by {way}: {}, differs at byte {at}", output.status)));
+            return Err(io::Error::other(format!("by {way}: {}, differs at offset {at}", output.status)));
         }
     }
     Ok(format!("{} bytes, handed over in {} ways", bytes.len(), outputs.len()))
