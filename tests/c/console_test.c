@@ -278,12 +278,14 @@ void __sanitizer_set_death_callback(void (*callback)(void));
 #endif
 
 static void say_where_it_ends(void) {
+    signal(SIGABRT, on_signal);
+    signal(SIGTERM, on_signal); /* as where a call does not end */
 #ifdef __SANITIZE_ADDRESS__
-    (void)on_signal; /* the address check has its own, with more to tell */
-    __sanitizer_set_death_callback(say_again);
+    __sanitizer_set_death_callback(say_again); /* its own handlers have more to tell of the others */
 #else
     signal(SIGSEGV, on_signal);
     signal(SIGBUS, on_signal);
+    signal(SIGFPE, on_signal);
     signal(SIGILL, on_signal);
 #endif
 }

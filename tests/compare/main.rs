@@ -144,7 +144,7 @@ fn compare(library: &mut Library, seed: u64, call: Call, index: usize, range: Ra
         }
         outcome.cases += 1;
         if outcome.differences.len() == MOST_DIFFERENCES {
-            outcome.differences.push(format!("\n the cases behind {number} were not run"));
+            outcome.differences.push("\n and the others were not run".to_string());
             break;
         }
     }
@@ -180,14 +180,14 @@ fn one(library: &mut Library, case: &Case, request: &Request, setting: &Setting)
     let due = expected::answer(request);
     match library.differs(case, request, &due, setting) {
         None => Ok(due.number),
-        Some(difference) => Err(format!("\n case {}: {difference}", case.number)),
+        Some(difference) => Err(format!("\n case {}:{difference}", case.number)),
     }
 }
 
 fn report(tally: &mut Tally, call: Call, outcome: &Outcome) {
     let name = format!("compare {}", call.name());
     if !outcome.differences.is_empty() {
-        return tally.check(&name, false, outcome.differences.concat());
+        return tally.check(&name, false, format!("{} cases run{}", outcome.cases, outcome.differences.concat()));
     }
     // Cases that never bring out a refusal would test nothing of it.
     let few: Vec<u32> =

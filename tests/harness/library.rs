@@ -62,7 +62,14 @@ extern "C" {
     fn _exit(status: i32) -> !;
 }
 
-/// What is under way, for the message where a call touches memory outside its areas.
+const ILLEGAL: i32 = 4;
+const ABORT: i32 = 6;
+const BUS: i32 = 7;
+const ARITHMETIC: i32 = 8;
+const SEGMENT: i32 = 11;
+const TERMINATE: i32 = 15;
+
+/// What is under way, for the message where a call ends the program.
 static UNDER_WAY: AtomicPtr<UnderWay<'static>> = AtomicPtr::new(std::ptr::null_mut());
 
 struct UnderWay<'a> {
@@ -71,16 +78,20 @@ struct UnderWay<'a> {
     again: &'a str,
 }
 
-extern "C" fn touched(_: i32) {
+extern "C" fn ended(signal: i32) {
+    let what = match signal {
+        BUS | SEGMENT => "memory outside the lent areas was touched".to_string(),
+        TERMINATE => "the program was ended from outside, as where a call does not end".to_string(),
+        _ => format!("a call ended the program by signal {signal}"),
+    };
+    println!("FAILED {what}");
     let under_way = UNDER_WAY.load(Ordering::Relaxed);
     // Set for each call, to what outlives it. The program ends here.
     unsafe {
         if let Some(UnderWay { request, case, again }) = under_way.as_ref() {
-            println!("FAILED memory outside the lent areas was touched\n  {request}");
-            println!("  run again: {again} {case}\n0 passed, 1 failed");
-        } else {
-            println!("FAILED the test program itself touched memory that is not its own\n0 passed, 1 failed");
+            println!("  {request}\n  run again: {again} {case}");
         }
+        println!("0 passed, 1 failed");
         _exit(1)
     }
 }
@@ -128,12 +139,9 @@ impl Library {
     }
 
     fn over(room: impl Fn() -> Room, again: String) -> Library {
-        const ILLEGAL: i32 = 4;
-        const BUS: i32 = 7;
-        const SEGMENT: i32 = 11;
-        for number in [ILLEGAL, BUS, SEGMENT] {
+        for number in [ILLEGAL, ABORT, BUS, ARITHMETIC, SEGMENT, TERMINATE] {
             // The handler only prints and ends the program.
-            unsafe { signal(number, touched) };
+            unsafe { signal(number, ended) };
         }
         Library { first: room(), second: room(), out: room(), again }
     }
@@ -184,7 +192,7 @@ impl Library {
         UNDER_WAY.store(std::ptr::null_mut(), Ordering::Relaxed);
         self.look(request, &before, &mut response)?;
         if memcheck::errors() != errors {
-            return Err(format!("memcheck reports errors, printed above; {}", response.shown(request.call)));
+            return Err(format!("memcheck reports an error; {}", response.shown(request.call)));
         }
         Ok(response)
     }

@@ -196,7 +196,7 @@ fn main() -> ExitCode {
         let detail = match (none, faults.is_empty()) {
             (true, _) => format!("no such label; there are {}", labels.met),
             (false, true) => "as written".to_string(),
-            (false, false) => faults.concat(),
+            (false, false) => format!("{} of {} labels{}", faults.len(), labels.met, faults.concat()),
         };
         tally.check(&format!("labels, {name}"), !none && faults.is_empty(), detail);
     }

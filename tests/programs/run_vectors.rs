@@ -191,10 +191,10 @@ fn run_table(table: &str, call: Call, only: Option<u64>, library: &mut Library, 
         }
         let case = Case { of: &name, number };
         let difference = match parse(call, line) {
-            None => Some(format!("cannot be read\n  {}", library.again(&case))),
+            None => Some(format!(" cannot be read\n  {}", library.again(&case))),
             Some((request, due)) => settings.iter().find_map(|setting| check(library, &case, &request, &due, setting)),
         };
-        bad.extend(difference.map(|difference| format!("\n line {number}: {difference}")));
+        bad.extend(difference.map(|difference| format!("\n line {number}:{difference}")));
         lines += 1;
     }
     if lines == 0 {
