@@ -1,7 +1,8 @@
-//! Document 01 written a second time, in plain Rust and from the paper alone, to hold the proved code against.
+//! What the specification asks, in plain Rust: written a second time from the requirements, not from our code, to hold the
+//! proved code against.
 //!
-//! It shares nothing with the definitions or the code under `crates/`. It is written to be read beside the paper and not to
-//! be fast: bits are lists of booleans, and every call hands back what it would write.
+//! It shares nothing with the definitions or the code under `crates/`. It is written to be read beside the specification and
+//! not to be fast: bits are lists of booleans, and every call hands back what it would write.
 
 pub mod base32;
 pub mod composite;
