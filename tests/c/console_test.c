@@ -6,6 +6,7 @@
  * for valgrind's memcheck, which sees every read and write of the library too.
  *
  * usage: console_test [--only BLOCK] */
+#define _POSIX_C_SOURCE 200809L /* for sigaction */
 #include "iscc.h"
 
 #include <inttypes.h>
@@ -277,16 +278,22 @@ static void on_signal(int number) {
 void __sanitizer_set_death_callback(void (*callback)(void));
 #endif
 
+static void on(int number) {
+    /* Not by signal(): it would let the same signal, come twice, end the program before it has printed. */
+    struct sigaction action = {.sa_handler = on_signal};
+    sigaction(number, &action, NULL);
+}
+
 static void say_where_it_ends(void) {
-    signal(SIGABRT, on_signal);
-    signal(SIGTERM, on_signal); /* as where a call does not end */
+    on(SIGABRT);
+    on(SIGTERM); /* as where a call does not end */
 #ifdef __SANITIZE_ADDRESS__
     __sanitizer_set_death_callback(say_again); /* its own handlers have more to tell of the others */
 #else
-    signal(SIGSEGV, on_signal);
-    signal(SIGBUS, on_signal);
-    signal(SIGFPE, on_signal);
-    signal(SIGILL, on_signal);
+    on(SIGSEGV);
+    on(SIGBUS);
+    on(SIGFPE);
+    on(SIGILL);
 #endif
 }
 
