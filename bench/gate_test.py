@@ -78,6 +78,7 @@ TABLES = """
 # What bench/gate reads, as .ci/run prints it.
 LOG = f"""== proofs
 {CI}gate: on a machine, 2 cores
+gate: of crates with the digest DIGEST
 gate: format took 1 s
 gate: proofs took 301 s
 gate: edits took 502 s
@@ -110,6 +111,9 @@ class Gate(unittest.TestCase):
         path = f"{self.top / 'bin'}:{os.environ['PATH']}"
         return subprocess.run(command, env={"PATH": path}, cwd="/", capture_output=True, text=True)
 
+    def log(self) -> str:
+        return LOG.replace("DIGEST", script.digest_of(self.top))
+
     def assert_fault(self, fault: str, log: str) -> None:
         with self.assertRaisesRegex(document.Fault, fault):
             script.tables(self.top, log)
@@ -136,8 +140,14 @@ class Gate(unittest.TestCase):
         gate = self.run_in(".ci/run")
         self.assertEqual((gate.returncode, gate.stdout.splitlines()[-1]), (1, "9 passed, 1 failed"))
 
+    def test_tests_that_say_nothing(self) -> None:
+        for said in ("", "echo 0 passed, 0 failed", "echo 3 passed, 0 failed; echo more", "printf '3 passed, 0 failed\\r\\n'"):
+            self.put("tests/run", f"#!/bin/sh\n{said}\n")
+            gate = self.run_in(".ci/run")
+            self.assertEqual((gate.returncode, gate.stdout.splitlines()[-1]), (1, "6 passed, 1 failed"), said)
+
     def test_write(self) -> None:
-        self.put("target/gate.log", LOG)
+        self.put("target/gate.log", self.log())
         made = self.run_in("bench/gate").stdout
         self.assertIn("| edits | 8 min 22 s |\n", made)
         self.assertEqual(self.run_in("bench/gate", "--write").stdout, "")
@@ -150,18 +160,28 @@ class Gate(unittest.TestCase):
             ("rt: must-fail one/second", "an edit is not in the log: one/second"),
             ("gate: edits", "each of the times"),
             ("gate: on", "the machine"),
+            ("gate: of", "the digest"),
         ):
-            left = [line for line in LOG.splitlines(True) if not line.startswith(lost)]
+            left = [line for line in self.log().splitlines(True) if not line.startswith(lost)]
             self.assert_fault(fault, "".join(left))
 
     def test_line_twice(self) -> None:
-        self.assert_fault("the crate two twice", "rt: two proved (8 s)\n" + LOG)
+        self.assert_fault("the crate two twice", "rt: two proved (8 s)\n" + self.log())
+
+    def test_file_changed(self) -> None:
+        for name in ("crates/one/src/lib.rt", "crates/one/must-fail/first.edit", "crates.txt"):
+            log = self.log()
+            self.put(name, (self.top / name).read_text() + " ")
+            self.assert_fault("other crates", log)
+        log = self.log()
+        self.put("crates/two/specs/New.antt", "")
+        self.assert_fault("other crates", log)
 
     def test_names_not_in_tree(self) -> None:
         (self.top / "crates/one/must-fail/second.edit").unlink()
-        self.assert_fault("an edit is in the log and not in the tree: one/second", LOG)
+        self.assert_fault("an edit is in the log and not in the tree: one/second", self.log())
         self.put("crates.txt", "one:\n")
-        self.assert_fault("a crate is in the log and not in the tree: two", LOG)
+        self.assert_fault("a crate is in the log and not in the tree: two", self.log())
 
     def test_marks(self) -> None:
         begin, _, end = FILES["docs/BENCHMARKS.md"].splitlines(True)[1:4]
