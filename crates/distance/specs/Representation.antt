@@ -46,7 +46,7 @@ abbrev pub comparableAs : Unit → Unit → Bool
 comparableAs u v =
     eqb (u .«main_type» .number) (v .«main_type» .number) && hasDistance (typeOf (u .«main_type» .number)) && eqb (u .subtype) (v .subtype)
 
--- "Where n is 32, 64, 128 or 256 the ratio is exactly d / n": the float product of the ratio and n equals d as a float
+-- "Where n is a power of two (32, 64, 128, 256) the ratio is exact": the float product of the ratio and n equals d as a float
 abbrev pub Exact : Distance → Type 0
 Exact r = (r .n ≡ 32) ⊎ (r .n ≡ 64) ⊎ (r .n ≡ 128) ⊎ (r .n ≡ 256)
     → eq (mul binary32 (r .ratio) (ofInt binary32 (pos (r .n)))) (ofInt binary32 (pos (r .d))) ≡ true

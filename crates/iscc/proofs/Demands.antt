@@ -1,4 +1,4 @@
--- The user's demands hold of the definitions. Demand 3 is proved in Doors.antt.
+-- Demands 1 and 2 hold of the definitions. Demand 3 is proved in Doors.antt.
 use Prim.Native.Nat.{ℕ, _≤_}
 use mathlib.Core.Path.{_≡_, refl, sym, _∙_, ap, subst}
 use mathlib.Core.Logic.{_⊎_, inl, inr}

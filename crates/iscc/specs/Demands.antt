@@ -1,5 +1,5 @@
--- The user's three demands, a field for each sentence, over the definitions that the calls' contracts cite.
--- proofs/Demands.antt proves them. A byte string is a list with `Below 256`.
+-- The specification's three demands, a field for each sentence, over the definitions that the calls' contracts cite.
+-- proofs/Demands.antt proves the first two, proofs/Doors.antt the third. A byte string is a list with `Below 256`.
 use Prim.Native.Nat.{ℕ, _%_, _≤_, _<_}
 use mathlib.Core.Path.{_≡_}
 use mathlib.Core.Logic.{_⊎_, _↔_}

@@ -110,7 +110,7 @@ intake t area = do
   m ← meaningOfText t
   accept (textOf m)
 
--- "The written text is the first bytes of the output area, as many as intake answers."
+-- the written text: "the first bytes of intake's output area, as many as intake answers"
 unfoldable pub writtenText : List ℕ → List ℕ → List ℕ
 writtenText t area = take (written (intake t (length area))) (areaAfter (intake t (length area)) area)
 

@@ -34,7 +34,7 @@ runStages a most cs = once emptyText (ltb 0 (length cs)) ∷ once longRun (leb (
 unfoldable pub textStages : List ℕ → List (List Rule)
 textStages t = once longText (leb (length t) 1024) ∷ runStages base32 80 (cleaned t)
 
--- ---- a header: 7, "a header is cut, has the prefix 1111, or a pad nibble that is not zero"
+-- ---- a header: 7, "a header is cut, has a varnibble that starts with 1111, or a pad nibble that is not zero"
 
 -- the nibble at which varnibble j starts: behind the one before it, which is as long as its own first nibble says
 unfoldable pub varnibbleStart : List ℕ → ℕ → ℕ
@@ -115,38 +115,38 @@ meaningStages (i ∷ j ∷ is) = listStages (i ∷ j ∷ is)
 abbrev pub areaStages : ℕ → Answer (List ℕ) → List (List Rule)
 areaStages area x = whereAccepted x (λ out. once areaTooShort (leb (length out) area) ∷ [])
 
--- ---- the calls, in the order of the specification's section
+-- ---- the calls, each with the tests of its part of the section
 
--- "2, 1, 3, 4, 5, 6; then 7, 8, 9 for each unit from the left, all of one unit before the next; then, for two or more items, 10 to 14"
+-- both doors: "2, 1, 3, 4, 5, 6; then 7, 8, 9 for each item from the left; then, for a list, 10 to 14"
 unfoldable pub doorStages : List ℕ → List (List Rule)
 doorStages t = textStages t ++ whereAccepted (payload t) (λ bs. itemStage bs ∷ whereAccepted (readItems bs) meaningStages)
 
--- "Intake tests 15 (area below 73 bytes, whatever the text)", then as above
+-- intake: "15 if the area is below 73 bytes, whatever the text", then as above
 unfoldable pub intakeStages : List ℕ → ℕ → List (List Rule)
 intakeStages t area = once areaTooShort (leb 73 area) ∷ doorStages t
 
--- "The strict door has no output area: 2, 1, 3 to 14 as intake, then 16."
+-- the strict door: "2, 1, 3, 4, 5, 6, then 7 to 14 as intake does, then 16"
 unfoldable pub strictStages : List ℕ → List (List Rule)
 strictStages t = doorStages t ++ whereAccepted (meaningOfText t) (λ m. once otherText (sameBytes (textOf m) t) ∷ [])
 
--- "The reader of one unit takes a composite too and answers 7, 8 or 9"
+-- the reader of one unit: "7, 8, 9. No byte at all is 7."
 unfoldable pub unitStages : List ℕ → List (List Rule)
 unitStages bs = inTurn itemRules bs
 
--- "The raw header reader gives only 7"
+-- the raw header reader: "7. No byte at all is 7."
 unfoldable pub headerStages : List ℕ → List (List Rule)
 headerStages bs = inTurn headerRules bs
 
--- "The base32 reader by itself takes either case, knows no scheme, blank or hyphen, and tests 4, 5, 6, then 15"
+-- the base32 reader: "4, 5, 6, then 15 if the area is shorter than the bytes"
 unfoldable pub readStages : Alphabet → List ℕ → ℕ → List (List Rule)
 readStages a t area = digitStages a t ++ areaStages area (decode a t)
 
--- "the base32 writer gives only 15"
+-- the base32 writer: "15 if the area is shorter than the text"
 unfoldable pub writeStages : Alphabet → List ℕ → ℕ → List (List Rule)
 writeStages a bs area = areaStages area (accept (encode a bs))
 
--- "The unit writer .. tests 8 (a composite is not a unit), 9 (body area shorter than the length; a longer one is cut, as in 003),
--- 15 (area shorter than the unit)."
+-- the unit writer: "8 if the table does not permit the header or if it is a composite's; 9 if the body area is shorter than the
+-- header says; 15 if the output area is shorter than the unit"
 unfoldable pub writeUnitStages : Header → List ℕ → ℕ → List (List Rule)
 writeUnitStages h body area =
     once notPermitted
@@ -154,14 +154,14 @@ writeUnitStages h body area =
     ∷ once shortBody (leb (bodyBytes (typeOf (h .mainType)) (h .subtype) (h .lengthNumber)) (length body))
     ∷ areaStages area (unitBytes h body)
 
--- "The raw header writer tests 17, then 15.": 17 for any of the four numbers
+-- the raw header writer: "17 if any of the four is above 4679; then 15 if the area is shorter than the header"
 unfoldable pub writeHeaderStages : Header → ℕ → List (List Rule)
 writeHeaderStages h area =
     rule numberTooLarge (λ j. headHolds (λ n. leb n 4679) (drop j (h .mainType ∷ h .subtype ∷ h .version ∷ h .lengthNumber ∷ [])))
     ∷ areaStages area (rawHeader h)
 
--- "Join reads bytes and tests 7 to 9 from the left, then, for one item only, 10 if it is a composite or ID, else 13; for more,
--- 10 to 14; then 15."
+-- join: "7, 8, 9 for each item from the left; for one item alone 10 if it is a composite or an ID, else 13, whatever its length;
+-- for a list 10 to 14; then 15 if the area is shorter than the composite"
 unfoldable pub joinStages : List Item → List (List Rule)
 joinStages [] = []
 joinStages (i ∷ []) =
@@ -173,26 +173,26 @@ joinStages (i ∷ j ∷ is) = listStages (i ∷ j ∷ is)
 unfoldable pub joinAllStages : List ℕ → ℕ → List (List Rule)
 joinAllStages bs area = (itemStage bs ∷ whereAccepted (readItems bs) joinStages) ++ areaStages area (joinedBytes bs)
 
--- "exactly one unit": 7, 8, 9, then 19
+-- the reader of exactly one: "7, 8, 9, then 19 if bytes are left over behind the item"
 unfoldable pub oneStages : List ℕ → List (List Rule)
 oneStages bs = unitStages bs ++ whereAccepted (readItem bs) (λ g. once bytesLeftOver (leb (length bs) (g .used)) ∷ [])
 
--- "Split tests 7, 8, 9, then 19, then 8 for anything but a composite, then 15"
+-- split: "7, 8, 9, 19; then 8 for anything but a composite; then 15 if the area is shorter than the units"
 unfoldable pub splitStages : List ℕ → ℕ → List (List Rule)
 splitStages bs area =
     (oneStages bs ++ whereAccepted (readOne bs) (λ i. once notPermitted (sameType (i .mainType) ISCC) ∷ []))
     ++ areaStages area (splitBytes bs)
 
--- The distance: "7, 8, 9, 19 on the first, the same on the second, then 18"
+-- the distance: "7, 8, 9, 19 on the first; the same on the second; then 18"
 unfoldable pub distanceStages : List ℕ → List ℕ → List (List Rule)
 distanceStages x y =
     oneStages x
     ++ whereAccepted (readOne x) (λ i. oneStages y ++ whereAccepted (readOne y) (λ j. once noDistance (comparable i j) ∷ []))
 
--- The code of a text: 15 (area below 42 bytes, whatever the text), then 2, 1, 3 to 14 as intake.
+-- the code of a text: "15 if the area is below 42 bytes, whatever the text; then 2, 1, 3 to 14 as intake"
 unfoldable pub readCodeStages : List ℕ → ℕ → List (List Rule)
 readCodeStages t area = once areaTooShort (leb 42 area) ∷ doorStages t
 
--- The text of a code: 15 (area below 73 bytes, whatever the code), then 7, 8, 9, 19.
+-- the text of a code: "15 if the area is below 73 bytes, whatever the bytes; then 7, 8, 9, 19"
 unfoldable pub writeTextStages : List ℕ → ℕ → List (List Rule)
 writeTextStages bs area = once areaTooShort (leb 73 area) ∷ oneStages bs

@@ -1,5 +1,5 @@
 // Runs every label of the specification and the published examples of the reference library through the public calls, a printed line
-// each. Documents 004 and 006 publish no code. Examples that a call answers otherwise than the library say so in their line.
+// each. Examples that a call answers otherwise than the library say so in their line.
 mod distances;
 mod headers;
 mod say;
