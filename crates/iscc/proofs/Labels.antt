@@ -13,12 +13,12 @@ use Rattle.iscc.specs.Items.{readUpTo, readItems, bodyIn, subtypeIn, sub
 use Rattle.iscc.specs.Doors.{isBlank, trimStart, trimEnd, scheme, schemeLength, dropHyphens, trimmed, behindScheme, cleaned, decodeRun, payload, itemsOfText, meaningOfText, textOf, intake}
 use Rattle.iscc.specs.Distance.{bitsOf, differingPositions, ratioOf, differingBits, comparedBits, comparable, distance}
 use Rattle.iscc.specs.Lines.{linesOf, decimal, refusedWord, lineAnswer, lineAnswers, lineProgram}
-use Rattle.iscc.specs.Labels.{StarredLabels, OtherLabels, PinnedDefinitions}
+use Rattle.iscc.specs.Labels.{ProvedLabels, RunLabels, PinnedDefinitions}
 use lib.Ieee.{ofInt, div}
 
-pub starred : StarredLabels
+pub proved-labels : ProvedLabels
 unfolding digits value allBelow digitCount toDigits byteCount spareCount fromDigits upper indexOf charIn digitIn encode decode base32 firstOf prefixOf rowOf rowBy varnibble writeVarnibble readVarnibble nibbles packed headerBytes rawHeader readHeader typeOf mainTypeOf sets setOf unitTypes compositeSubtype row bodyBytes itemBytes readItem readOne cut compositeOf meaningAs unitLengthNumber flatten itemOf readUpTo readItems every pairwise bodyIn subtypeIn subtypeOf compositeFrom meaningOfItems isBlank trimStart trimEnd sameBytes scheme schemeLength dropHyphens trimmed behindScheme cleaned decodeRun payload itemsOfText meaningOfText textOf intake bitsOf differingPositions ratioOf differingBits comparedBits comparable distance ofInt div
-starred =
+proved-labels =
     record {
       number7 = refl;
       number8 = refl;
@@ -38,9 +38,9 @@ starred =
       nine = refl;
     }
 
-pub others : OtherLabels
+pub run-labels : RunLabels
 unfolding digits value allBelow digitCount toDigits byteCount spareCount fromDigits upper indexOf charIn digitIn encode decode base32 firstOf prefixOf rowOf rowBy varnibble readVarnibble nibbles packed headerBytes readHeader typeOf mainTypeOf sets setOf unitTypes compositeSubtype row bodyBytes itemBytes readItem cut compositeOf meaningAs unitLengthNumber flatten itemOf readUpTo readItems every pairwise bodyIn subtypeIn subtypeOf compositeFrom meaningOfItems isBlank trimStart trimEnd sameBytes scheme schemeLength dropHyphens trimmed behindScheme cleaned decodeRun payload itemsOfText meaningOfText textOf intake linesOf decimal refusedWord lineAnswer lineAnswers lineProgram
-others =
+run-labels =
     record {
       noColon = refl;
       ab = refl;

@@ -21,8 +21,8 @@ use Rattle.iscc.specs.Lines.{lineProgram}
 abbrev nineThirtySeconds : Float
 nineThirtySeconds = fin false 9 (negsuc 4)
 
--- those marked with a star
-pub record StarredLabels : Type 0 where
+-- the group under Proved
+pub record ProvedLabels : Type 0 where
   pub number7 : writeVarnibble 7 ≡ accept (0x7 ∷ [])
   pub number8 : writeVarnibble 8 ≡ accept (0x8 ∷ 0x0 ∷ [])
   pub number71 : writeVarnibble 71 ≡ accept (0xb ∷ 0xf ∷ [])
@@ -40,8 +40,8 @@ pub record StarredLabels : Type 0 where
   pub twice : intake (ascii "GAAW2PRCRS5LNVZVGAAW2PRCRS5LNVZV") 73 ≡ refuse (refusal 12)
   pub nine : distance (0x30 ∷ 0 ∷ 0 ∷ 0 ∷ 0 ∷ 0 ∷ []) (0x30 ∷ 0 ∷ 0xff ∷ 0 ∷ 0 ∷ 1 ∷ []) ≡ accept (record { d = 9; n = 32; ratio = nineThirtySeconds })
 
--- those without a star, the sizes of composites, and the line program's whole case
-pub record OtherLabels : Type 0 where
+-- texts and a header of the group under Run, the sizes of composites, and the line program's example; computed too
+pub record RunLabels : Type 0 where
   pub noColon : intake (ascii "ISCC") 73 ≡ refuse (refusal 6)
   pub ab : intake (ascii "AB") 73 ≡ refuse (refusal 6)
   pub a : intake (ascii "A") 73 ≡ refuse (refusal 5)
