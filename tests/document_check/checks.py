@@ -136,7 +136,10 @@ def check_homes(document: Document, index: Index, tally: Tally) -> None:
 
 def check_trace(opened: list[Document], index: Index, tally: Tally) -> None:
     """Nothing that the trace owes is left out of it."""
-    named = {n for d in opened if d.path.startswith("docs/trace/") for _, n in quoted(d)}
+    pages = [d for d in opened if d.path.startswith("docs/trace/")]
+    named = {n for d in pages for _, n in quoted(d)}
+    laws = [law for d in pages for law in (*without_file(d, "Proof"), *column(d, "law"))]
+    tally.check(len(laws) > 40, "docs/trace: its laws were not found")
     demands = {f for f in index.fields if re.match(r"Demand[123]\.", f)}
     tally.check(len(demands) > 40, "the demands' fields were not found")
     for name in sorted(demands | index.edits):
@@ -177,6 +180,7 @@ def check_passages(index: Index, tally: Tally) -> None:
     page = plain(read(SPECIFICATION))
     said = [(p, *found) for p in sources(index) if p.endswith((".antt", ".rt")) for found in passages(read(p))]
     readings = section(read("docs/DECISIONS.md"), "Readings")
+    tally.check(bool(readings), "docs/DECISIONS.md: its readings were not found")
     said += [("docs/DECISIONS.md", *found) for found in quotations(readings)]
     for path, number, words in said:
         tally.check(words in page, f"{path}:{number}: the specification does not say \"{words}\"")
