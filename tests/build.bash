@@ -28,7 +28,8 @@ build_standin() {
     shift 2
     mkdir -p "$out" &&
         compile "$@" --crate-type rlib --crate-name reference "$sources/reference/lib.rs" --out-dir "$out" &&
-        compile "$@" --crate-type cdylib --crate-name standin --extern reference -L "$out" "$sources/standin/lib.rs" --out-dir "$out" &&
+        compile "$@" --crate-type cdylib --crate-name standin --extern reference -L "$out" "$sources/standin/lib.rs" \
+            --out-dir "$out" &&
         compile "$@" --crate-name intake_lines --extern reference -L "$out" "$sources/standin/intake_lines.rs" --out-dir "$out"
 }
 
@@ -41,7 +42,8 @@ build_program() {
     mkdir -p "$out" && rm -f "$out/$name" || return
     case $name in
     compare)
-        compile --crate-name compare --extern harness --extern reference -L "$built" "${words[@]}" tests/compare/main.rs --out-dir "$out"
+        compile --crate-name compare --extern harness --extern reference -L "$built" "${words[@]}" tests/compare/main.rs \
+            --out-dir "$out"
         ;;
     console_test)
         gcc -std=c11 -g -O1 -fsanitize=address,undefined -fno-sanitize-recover=all "${warnings[@]}" -Iinclude \

@@ -20,6 +20,13 @@ say_again() {
     [ -z "$again" ] || echo "run again: $again"
 }
 
+# no_check NAME: what ran no check has failed.
+no_check() {
+    echo "FAILED $1: no check was run"
+    say_again
+    failed=$((failed + 1))
+}
+
 # step NAME COMMAND..: something that must be done before the checks; counted only where it fails.
 step() {
     local name=$1 output
@@ -36,7 +43,7 @@ step() {
 
 # part NAME COMMAND..: runs it, shows its output and adds its counts.
 part() {
-    local name=$1 output status count bad
+    local name=$1 output status count good bad
     shift
     output=$("$@" 2>&1)
     status=$?
@@ -44,10 +51,14 @@ part() {
     if [ -n "$count" ]; then
         echo "== $name"
         echo "$output"
-        passed=$((passed + ${count%% *}))
+        good=${count%% *}
+        passed=$((passed + good))
         count=${count#*, }
         bad=${count%% *}
-        if [ "$status" -ne 0 ] && [ "$bad" -eq 0 ]; then
+        if [ "$((good + bad))" -eq 0 ]; then
+            echo "FAILED $name: no check was run"
+            bad=1
+        elif [ "$status" -ne 0 ] && [ "$bad" -eq 0 ]; then
             echo "FAILED $name: status $status"
             bad=1
         fi
