@@ -47,12 +47,8 @@ fn difference(program: &str, input: &[u8]) -> Option<String> {
         Ok(found) => found,
         Err(error) => return Some(error.to_string()),
     };
-    if found == due {
-        return None;
-    }
-    let at = found.iter().zip(&due).take_while(|(a, b)| a == b).count();
-    let line = due[..at].iter().filter(|&&byte| byte == b'\n').count();
-    Some(format!("answer line {} differs, {} bytes for {} due", line + 1, found.len(), due.len()))
+    let bad = harness::lines::differences(input, &due, &found);
+    bad.first().map(|first| format!("{} lines differ, first{}", bad.len(), first.whole))
 }
 
 /// Compares the inputs of a range; each that differs is told, with the command that runs it again.

@@ -56,7 +56,7 @@ impl Call {
     }
 
     /// What the call reads, by the names that the vectors' README has for it.
-    fn reads(self) -> (Option<&'static str>, Option<&'static str>) {
+    pub fn reads(self) -> (Option<&'static str>, Option<&'static str>) {
         match self {
             Call::Intake | Call::Strict | Call::Code | Call::Base32Read => (Some("text"), None),
             Call::Text => (Some("code"), None),
@@ -133,6 +133,9 @@ impl fmt::Display for Request {
     }
 }
 
+/// Values by their names, in their order.
+pub type Fields = Vec<(&'static str, String)>;
+
 /// The number, the other numbers of the answer in the order of their C struct (a float by its bits), and the written bytes.
 #[derive(Clone, Debug, Default, PartialEq, Eq)]
 pub struct Response {
@@ -150,17 +153,21 @@ impl Response {
         Response { values: [bytes.len() as u64, 0, 0, 0, 0], written: bytes, ..Response::default() }
     }
 
-    /// The call's answer by name, as the vectors have it.
-    pub fn shown(&self, call: Call) -> String {
-        let number = self.number;
-        let [a, b, c, d, e] = self.values;
-        match call {
-            Call::Strict => format!("number={number}"),
-            Call::Distance => format!("number={number} d={a} n={b} ratio={c:08x}"),
-            Call::HeaderRead | Call::UnitRead => {
-                format!("number={number} main_type={a} subtype={b} version={c} length={d} used={e}")
-            }
-            _ => format!("number={number} length={a} written={}", hex::shown(&self.written)),
+    /// The call's answer by name, as the vectors have it; the number comes first.
+    pub fn fields(&self, call: Call) -> Fields {
+        let names: &[&str] = match call {
+            Call::Strict => &[],
+            Call::Distance => &["d", "n", "ratio"],
+            Call::HeaderRead | Call::UnitRead => &["main_type", "subtype", "version", "length", "used"],
+            _ => &["length"],
+        };
+        let mut fields = vec![("number", self.number.to_string())];
+        for (&name, value) in names.iter().zip(self.values) {
+            fields.push((name, if name == "ratio" { format!("{value:08x}") } else { value.to_string() }));
         }
+        if call.writes() {
+            fields.push(("written", hex::shown(&self.written)));
+        }
+        fields
     }
 }

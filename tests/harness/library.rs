@@ -1,10 +1,11 @@
 //! The C entries of the linked libraries, called on areas of just their length; every byte that a call must keep is
 //! looked at.
 
-use crate::call::{Call, Request, Response};
+use crate::call::{Call, Fields, Request, Response};
 use crate::fence::{Fence, Side};
 use crate::memcheck;
 use crate::room::Room;
+use crate::told::Difference;
 use std::fmt;
 use std::sync::atomic::{AtomicPtr, Ordering};
 
@@ -118,6 +119,12 @@ pub struct Setting {
     pub filling: Vec<u8>,
 }
 
+/// What a call answers, and what it did that it must not.
+pub struct Answer {
+    pub response: Response,
+    pub fault: Option<String>,
+}
+
 /// The linked libraries, with room for the areas of one call.
 pub struct Library {
     first: Room,
@@ -151,25 +158,34 @@ impl Library {
         format!("run again: {} {case}", self.again)
     }
 
-    /// Nothing where the call answers what is due; else the case, both answers and the command.
-    pub fn differs(&mut self, case: &Case, request: &Request, due: &Response, setting: &Setting) -> Option<String> {
-        let found = self.answer(case, request, setting);
-        if found.as_ref() == Ok(due) {
+    /// Nothing where the call answers what is due.
+    pub fn differs(&mut self, case: &Case, request: &Request, due: &Response, setting: &Setting) -> Option<Difference> {
+        let answer = self.answer(case, request, setting);
+        if answer.fault.is_none() && answer.response == *due {
             return None;
         }
-        let found = found.map_or_else(|fault| fault, |response| response.shown(request.call));
-        let (due, again) = (due.shown(request.call), self.again(case));
-        Some(format!("\n  {request}\n  expected {due}\n  found    {found}\n  {again}"))
+        let found = answer.response.fields(request.call);
+        Some(self.difference(case, request, (due.fields(request.call), found), answer.fault))
     }
 
-    /// What the call writes; an error is told as a difference is.
-    pub fn written(&mut self, case: &Case, request: &Request, setting: &Setting) -> Result<Vec<u8>, String> {
-        let found = self.answer(case, request, setting).map(|response| response.written);
-        found.map_err(|fault| format!("\n  {request}\n  found    {fault}\n  {}", self.again(case)))
+    /// What the call writes, where it is not refused.
+    pub fn written(&mut self, case: &Case, request: &Request, setting: &Setting) -> Result<Vec<u8>, Difference> {
+        let answer = self.answer(case, request, setting);
+        if answer.fault.is_none() && answer.response.number == 0 {
+            return Ok(answer.response.written);
+        }
+        let fields = (vec![("number", "0".to_string())], answer.response.fields(request.call));
+        Err(self.difference(case, request, fields, answer.fault))
     }
 
-    /// Makes the call; an error tells what it did that it must not.
-    fn answer(&mut self, case: &Case, request: &Request, setting: &Setting) -> Result<Response, String> {
+    /// The fields that are due beside those that were found.
+    pub fn difference(&self, case: &Case, request: &Request, fields: (Fields, Fields), fault: Option<String>) -> Difference {
+        let (due, found) = fields;
+        Difference { request: request.to_string(), due, found, fault, again: self.again(case) }
+    }
+
+    /// Makes the call.
+    pub fn answer(&mut self, case: &Case, request: &Request, setting: &Setting) -> Answer {
         let Setting { side, null, filling } = setting;
         let before: Vec<u8> = filling.iter().copied().cycle().take(request.area).collect();
         let lend = |room: &mut Room, bytes: &[u8]| {
@@ -190,34 +206,31 @@ impl Library {
         // The three areas are as long as said and do not overlap.
         let mut response = unsafe { enter(request, first, second, out) };
         UNDER_WAY.store(std::ptr::null_mut(), Ordering::Relaxed);
-        self.look(request, &before, &mut response)?;
-        if memcheck::errors() != errors {
-            return Err(format!("memcheck reports an error; {}", response.shown(request.call)));
-        }
-        Ok(response)
+        let fault = self.look(request, &before, &mut response);
+        let reported = || (memcheck::errors() != errors).then(|| "memcheck reports an error".to_string());
+        Answer { response, fault: fault.or_else(reported) }
     }
 
     /// Takes the written bytes over into the response and sees that all others are as before.
-    fn look(&mut self, request: &Request, before: &[u8], response: &mut Response) -> Result<(), String> {
+    fn look(&mut self, request: &Request, before: &[u8], response: &mut Response) -> Option<String> {
         let length = if request.call.writes() && response.number == 0 { response.values[0] as usize } else { 0 };
         if length > before.len() {
-            return Err(format!("the length is beyond the area; {}", response.shown(request.call)));
+            return Some("the length is beyond the area".to_string());
         }
         let after = self.out.area();
         memcheck::check_defined(&after[..length]);
         memcheck::make_defined(after);
         response.written = after[..length].to_vec();
         let changed = (length..before.len()).find(|&at| after[at] != before[at]);
-        let fault = if let Some(at) = changed {
-            format!("the byte at offset {at} of the output area was changed")
+        if let Some(at) = changed {
+            Some(format!("the byte at offset {at} of the output area was changed"))
         } else if self.first.area() != request.first || self.second.area() != request.second {
-            "an area lent for reading was changed".to_string()
+            Some("an area lent for reading was changed".to_string())
         } else if !(self.first.kept() && self.second.kept() && self.out.kept()) {
-            "a byte beside an area was changed".to_string()
+            Some("a byte beside an area was changed".to_string())
         } else {
-            return Ok(());
-        };
-        Err(format!("{fault}; {}", response.shown(request.call)))
+            None
+        }
     }
 }
 

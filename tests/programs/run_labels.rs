@@ -29,7 +29,8 @@ impl Labels {
         }
         let case = Case { of: self.block, number: self.met };
         let setting = Setting { side: Side::Right, null: true, filling: vec![0xee] };
-        self.faults.extend(self.library.differs(&case, &request, &due, &setting));
+        let difference = self.library.differs(&case, &request, &due, &setting);
+        self.faults.extend(difference.map(|difference| difference.to_string()));
     }
 
     /// Intake on an area of just 73 bytes writes this text.

@@ -2,26 +2,33 @@
 
 use harness::call::{Call, Request, Response};
 use harness::fence::Side;
-use harness::hex;
 use harness::library::{Case, Library, Setting};
+use harness::lines;
+use harness::table::{self, Line};
 use harness::tally::Tally;
+use harness::told::{self, Difference, Told};
 use harness::words::Words;
+use std::collections::HashSet;
 use std::fs::{self, File};
 use std::io::{self, Write};
 use std::path::{Path, PathBuf};
-use std::process::{Command, ExitCode, Stdio};
+use std::process::{Command, ExitCode, Output, Stdio};
 
-const USAGE: &str = "usage: run_vectors FOLDER [--lines PROGRAM] [--only TABLE.tsv LINE | --only FILE.in]
+const USAGE: &str = "usage: run_vectors FOLDER --lines PROGRAM [--partial] [--only TABLE LINE | --only FILE.in]
   FOLDER              the folder of the vectors
-  --lines PROGRAM     the line program; without it the line files are not run
-  --only TABLE LINE   one line of one table, counted from 1
+  --lines PROGRAM     the line program
+  --partial           for trials: tables, lines of tables, line files or the line program may be missing
+  --only TABLE LINE   one line of one table, counted from 1; wants no line program
   --only FILE.in      one line file";
 
 /// The longest area of the vectors is far below this.
 const LONGEST: usize = 1 << 20;
 
-/// Of more bad lines than these only the count is printed.
-const MOST_PRINTED: usize = 20;
+/// What the vectors have at least, as their README says, so that none is lost unseen: different lines in each table, lines
+/// there for each number that the call can give, and line files.
+const LEAST_LINES: usize = 2000;
+const LEAST_OF_A_NUMBER: usize = 50;
+const LEAST_LINE_FILES: usize = 14;
 
 /// The one thing to run.
 enum Only {
@@ -32,6 +39,7 @@ enum Only {
 struct Options {
     folder: PathBuf,
     lines: Option<String>,
+    partial: bool,
     only: Option<Only>,
     /// The command that runs a part of this again, without the words that choose the part.
     again: String,
@@ -39,52 +47,69 @@ struct Options {
 
 fn options() -> Options {
     let mut words = Words::new(USAGE);
-    let (mut folder, mut lines, mut only) = (None, None, None);
+    let (mut folder, mut lines, mut only, mut partial) = (None, None, None, false);
     while let Some(word) = words.next_word() {
         match word.as_str() {
             "--lines" => lines = Some(words.value(&word)),
-            "--only" => {
-                let name = words.value(&word);
-                only = Some(if name.ends_with(".in") { Only::File(name) } else { Only::Line(name, words.number(&word)) });
-            }
+            "--partial" => partial = true,
+            "--only" => only = Some(only_one(&mut words)),
             _ if word.starts_with('-') => words.refuse(format!("no option is called '{word}'")),
             _ if folder.is_some() => words.refuse(format!("one folder is enough: '{word}'")),
             _ => folder = Some(PathBuf::from(word)),
         }
     }
     let Some(folder) = folder.filter(|folder| folder.is_dir()) else { words.refuse("FOLDER is missing or no folder") };
-    match &only {
-        Some(Only::Line(name, line)) if !has_line(&folder, name, *line) => {
-            words.refuse(format!("no table '{name}' with a line {line} of columns; tables: {}", tables().join(" ")))
-        }
-        Some(Only::File(name)) if lines.is_none() => words.refuse(format!("--only {name} wants --lines PROGRAM")),
-        Some(Only::File(name)) if !names(&folder, ".in").contains(name) => words.refuse(format!("no line file '{name}'")),
-        _ => (),
-    }
     let with_lines = lines.as_ref().map_or(String::new(), |program| format!(" --lines {program}"));
     let again = format!("{} {}{with_lines} --only", words.program, folder.display());
-    Options { folder, lines, only, again }
+    let options = Options { folder, lines, partial, only, again };
+    if let Some(why) = fault(&options) {
+        words.refuse(why);
+    }
+    options
 }
 
-/// The tables that calls have.
-fn tables() -> Vec<String> {
-    Call::ALL.into_iter().filter(|&call| has_table(call)).map(table_name).collect()
+/// What stands behind `--only`; a table may go without its ending.
+fn only_one(words: &mut Words) -> Only {
+    let name = words.value("--only");
+    if name.ends_with(".in") {
+        return Only::File(name);
+    }
+    let table = format!("{}.tsv", name.strip_suffix(".tsv").unwrap_or(&name));
+    Only::Line(table, words.number("--only"))
 }
 
-fn table_name(call: Call) -> String {
-    format!("{}.tsv", call.name())
+/// What is wrong with options that can be read.
+fn fault(options: &Options) -> Option<String> {
+    match &options.only {
+        Some(Only::Line(name, _)) if !table::names().contains(name) => {
+            Some(format!("no table is called '{name}'; tables: {}", table::names().join(" ")))
+        }
+        Some(Only::Line(name, line)) if !has_line(&options.folder.join(name), *line) => {
+            Some(format!("'{name}' is missing, or its line {line} is, or is a comment"))
+        }
+        Some(Only::Line(..)) => None,
+        Some(Only::File(name)) if options.lines.is_none() => Some(format!("--only {name} wants --lines PROGRAM")),
+        Some(Only::File(name)) if !names(&options.folder, ".in").contains(name) => Some(format!("no line file '{name}'")),
+        None if options.lines.is_none() && !options.partial => Some("it wants --lines PROGRAM, or --partial".to_string()),
+        _ => None,
+    }
 }
 
-/// Whether a table of a call has this line, and no comment there.
-fn has_line(folder: &Path, name: &str, line: u64) -> bool {
-    let table = if tables().iter().any(|known| known == name) { fs::read_to_string(folder.join(name)) } else { return false };
-    let at = line.checked_sub(1).and_then(|at| usize::try_from(at).ok());
-    at.zip(table.ok()).is_some_and(|(at, table)| table.lines().nth(at).is_some_and(|text| !text.starts_with('#')))
+/// Whether a table has this line, and no comment there.
+fn has_line(path: &Path, line: u64) -> bool {
+    fs::read_to_string(path).is_ok_and(|table| table::lines(&table).any(|(number, _)| number == line))
+}
+
+fn read(options: &Options, name: &str) -> Result<String, String> {
+    fs::read_to_string(options.folder.join(name)).map_err(|error| error.to_string())
 }
 
 fn main() -> ExitCode {
     let options = options();
     let mut tally = Tally::default();
+    if !options.partial && options.only.is_none() {
+        sizes(&options, &mut tally);
+    }
     if !matches!(options.only, Some(Only::File(_))) {
         call_files(&options, &mut tally);
     }
@@ -94,24 +119,61 @@ fn main() -> ExitCode {
     tally.finish()
 }
 
+/// Two checks that the vectors are all there.
+fn sizes(options: &Options, tally: &mut Tally) {
+    let calls: Vec<Call> = Call::ALL.into_iter().filter(|&call| table::exists(call)).collect();
+    let few: Vec<String> = calls.iter().flat_map(|&call| too_few(call, read(options, &table::name(call)))).collect();
+    let due = format!("{LEAST_LINES} different lines each, {LEAST_OF_A_NUMBER} for each number");
+    let detail = format!("{} tables, at least {due}{}", calls.len(), few.concat());
+    tally.check("tables are whole", few.is_empty(), detail);
+    let files = names(&options.folder, ".in").len();
+    tally.check("line files are all there", files >= LEAST_LINE_FILES, format!("{files}, at least {LEAST_LINE_FILES}"));
+}
+
+/// What a table has too few of.
+fn too_few(call: Call, table: Result<String, String>) -> Vec<String> {
+    let name = table::name(call);
+    let table = match table {
+        Ok(table) => table,
+        Err(error) => return vec![format!("\n {name}: {error}")],
+    };
+    let lines: HashSet<&str> = table::lines(&table).map(|(_, line)| line).collect();
+    let numbers: Vec<u32> = lines.iter().flat_map(|line| table::parse(call, line)).map(|line| line.due.number).collect();
+    let mut few = Vec::new();
+    if lines.len() < LEAST_LINES {
+        few.push(format!("\n {name}: {} different lines", lines.len()));
+    }
+    for due in call.numbers() {
+        let count = numbers.iter().filter(|&number| number == due).count();
+        if count < LEAST_OF_A_NUMBER {
+            few.push(format!("\n {name}: number {due} in {count} lines"));
+        }
+    }
+    few
+}
+
 /// One check for each call's file and for each other use of a file, and one that no other table stands in the folder unread.
 fn call_files(options: &Options, tally: &mut Tally) {
     let mut library = Library::fenced(LONGEST, options.again.clone());
-    let own = Call::ALL.into_iter().filter(|&call| has_table(call)).map(|call| (call, "", answers as Check));
+    let own = Call::ALL.into_iter().filter(|&call| table::exists(call)).map(|call| (call, "", answers as Check));
     let others: [(Call, &str, Check); 2] =
         [(Call::Intake, " through the code", through_code), (Call::UnitRead, " as one code", as_one_code)];
     for (call, use_of, check) in own.chain(others) {
-        let name = table_name(call);
+        let name = table::name(call);
         let only = match &options.only {
             Some(Only::Line(table, _)) if *table != name => continue,
             Some(Only::Line(_, line)) => Some(*line),
             _ => None,
         };
-        let table = fs::read_to_string(options.folder.join(&name)).map_err(|error| error.to_string());
-        let found = table.and_then(|table| run_table(&table, call, only, &mut library, check));
+        if options.partial && !options.folder.join(&name).exists() {
+            println!("missing: {name}{use_of}");
+            continue;
+        }
+        let found = read(options, &name).and_then(|table| run_table(&table, call, only, &mut library, check));
         report(tally, &format!("{name}{use_of}"), found);
     }
-    let unread: Vec<String> = names(&options.folder, ".tsv").into_iter().filter(|name| !tables().contains(name)).collect();
+    let known = table::names();
+    let unread: Vec<String> = names(&options.folder, ".tsv").into_iter().filter(|name| !known.contains(name)).collect();
     if !unread.is_empty() {
         tally.check("tables", false, format!("no call reads {}", unread.join(" ")));
     }
@@ -134,20 +196,21 @@ fn names(folder: &Path, ending: &str) -> Vec<String> {
     names
 }
 
-/// The code of a text and the text of a code have no table of their own: they are held against those of other calls.
-fn has_table(call: Call) -> bool {
-    !matches!(call, Call::Code | Call::Text)
-}
-
 /// What a line of a table asks of the library under one setting; something where it differs.
-type Check = fn(&mut Library, &Case, &Request, &Response, &Setting) -> Option<String>;
+type Check = fn(&mut Library, &Case, &Line, &Setting) -> Option<Difference>;
 
-fn answers(library: &mut Library, case: &Case, request: &Request, due: &Response, setting: &Setting) -> Option<String> {
-    library.differs(case, request, due, setting)
+fn answers(library: &mut Library, case: &Case, line: &Line, setting: &Setting) -> Option<Difference> {
+    let answer = library.answer(case, &line.request, setting);
+    let fields = (line.due_fields(), line.fields_of(&answer.response));
+    if answer.fault.is_none() && answer.response == line.due && fields.0 == fields.1 {
+        return None;
+    }
+    Some(library.difference(case, &line.request, fields, answer.fault))
 }
 
 /// The code of a text refuses as intake does but for the area, and the text of the code is what intake writes.
-fn through_code(library: &mut Library, case: &Case, request: &Request, due: &Response, setting: &Setting) -> Option<String> {
+fn through_code(library: &mut Library, case: &Case, line: &Line, setting: &Setting) -> Option<Difference> {
+    let (request, due) = (&line.request, &line.due);
     let code = |area| Request { first: request.first.clone(), area, ..Request::new(Call::Code) };
     let too_short = library.differs(case, &code(41), &Response::refused(15), setting);
     if too_short.is_some() || due.number == 15 {
@@ -158,7 +221,7 @@ fn through_code(library: &mut Library, case: &Case, request: &Request, due: &Res
     }
     let found = match library.written(case, &code(42), setting) {
         Ok(found) => found,
-        Err(fault) => return Some(fault),
+        Err(difference) => return Some(difference),
     };
     let text = |area| Request { first: found.clone(), area, ..Request::new(Call::Text) };
     let too_short = library.differs(case, &text(72), &Response::refused(15), setting);
@@ -166,7 +229,8 @@ fn through_code(library: &mut Library, case: &Case, request: &Request, due: &Res
 }
 
 /// The text of bytes is refused as the reader of one unit says, and with 19 where it leaves bytes over; else it reads back.
-fn as_one_code(library: &mut Library, case: &Case, request: &Request, due: &Response, setting: &Setting) -> Option<String> {
+fn as_one_code(library: &mut Library, case: &Case, line: &Line, setting: &Setting) -> Option<Difference> {
+    let (request, due) = (&line.request, &line.due);
     let text = Request { first: request.first.clone(), area: 73, ..Request::new(Call::Text) };
     let left = due.number == 0 && due.values[4] < request.first.len() as u64;
     if due.number != 0 || left {
@@ -174,7 +238,7 @@ fn as_one_code(library: &mut Library, case: &Case, request: &Request, due: &Resp
     }
     let found = match library.written(case, &text, setting) {
         Ok(found) => found,
-        Err(fault) => return Some(fault),
+        Err(difference) => return Some(difference),
     };
     let code = Request { first: found, area: 42, ..Request::new(Call::Code) };
     library.differs(case, &code, &Response::written(request.first.clone()), setting)
@@ -182,130 +246,32 @@ fn as_one_code(library: &mut Library, case: &Case, request: &Request, due: &Resp
 
 /// Runs each line of a table, or only one, under every setting; tells how many lines, or all that differ.
 fn run_table(table: &str, call: Call, only: Option<u64>, library: &mut Library, check: Check) -> Result<String, String> {
-    let (settings, name) = (settings(), table_name(call));
+    let (settings, name) = (settings(), table::name(call));
     let mut lines = 0;
     let mut bad = Vec::new();
-    for (number, line) in (1..).zip(table.lines()) {
-        if line.starts_with('#') || only.is_some_and(|only| only != number) {
-            continue;
-        }
-        let case = Case { of: &name, number };
-        let difference = match parse(call, line) {
-            None => Some(format!(" cannot be read\n  {}", library.again(&case))),
-            Some((request, due)) => settings.iter().find_map(|setting| check(library, &case, &request, &due, setting)),
-        };
-        bad.extend(difference.map(|difference| format!("\n line {number}:{difference}")));
+    for (number, line) in table::lines(table).filter(|(number, _)| only.unwrap_or(*number) == *number) {
         lines += 1;
+        let case = Case { of: &name, number };
+        let (whole, brief) = match table::parse(call, line) {
+            Err(why) => (format!(" {why}\n  {}", library.again(&case)), why),
+            Ok(line) => match settings.iter().find_map(|setting| check(library, &case, &line, setting)) {
+                None => continue,
+                Some(difference) => (difference.to_string(), difference.brief()),
+            },
+        };
+        bad.push(Told { whole: format!("\n line {number}:{whole}"), brief: format!("\n line {number}: {brief}") });
     }
-    if lines == 0 {
-        return Err("no line".to_string());
+    match (lines, bad.len()) {
+        (0, _) => Err("no line".to_string()),
+        (_, 0) => Ok(format!("{lines} lines, each under {} settings", settings.len())),
+        (_, count) => Err(format!("{count} of {lines} lines differ{}", told::list(&bad))),
     }
-    if bad.is_empty() {
-        return Ok(format!("{lines} lines, each under {} settings", settings.len()));
-    }
-    let more = match bad.len().saturating_sub(MOST_PRINTED) {
-        0 => String::new(),
-        more => format!("\n and {more} more lines"),
-    };
-    let printed = &bad[..bad.len().min(MOST_PRINTED)];
-    Err(format!("{} of {lines} lines differ{}{more}", bad.len(), printed.concat()))
 }
 
 /// Three fillings, both sides, and empty areas as null or not.
 fn settings() -> Vec<Setting> {
     let setting = |byte, side, null| Setting { side, null, filling: vec![byte] };
     vec![setting(0x00, Side::Left, true), setting(0x5a, Side::Right, false), setting(0xff, Side::Right, true)]
-}
-
-/// The columns of a line from the left.
-struct Columns<'a>(std::str::Split<'a, char>);
-
-impl Columns<'_> {
-    fn bytes(&mut self) -> Option<Vec<u8>> {
-        hex::decode(self.0.next()?)
-    }
-
-    fn number<T: std::str::FromStr>(&mut self) -> Option<T> {
-        self.0.next()?.parse().ok()
-    }
-
-    fn header(&mut self) -> Option<[u32; 4]> {
-        Some([self.number()?, self.number()?, self.number()?, self.number()?])
-    }
-
-    /// Bits of a float in hex.
-    fn bits(&mut self) -> Option<u64> {
-        u64::from_str_radix(self.0.next()?, 16).ok()
-    }
-
-    /// The column `told`, which is 0 throughout.
-    fn told(&mut self) -> Option<()> {
-        (self.number::<u64>()? == 0).then_some(())
-    }
-}
-
-/// A line of a call's table as the request and the answer that is due.
-fn parse(call: Call, line: &str) -> Option<(Request, Response)> {
-    let mut columns = Columns(line.split('\t'));
-    let request = parse_request(call, &mut columns)?;
-    let response = parse_response(&request, &mut columns)?;
-    columns.0.next().is_none().then_some((request, response))
-}
-
-fn parse_request(call: Call, columns: &mut Columns) -> Option<Request> {
-    let mut request = Request::new(call);
-    match call {
-        Call::Strict | Call::HeaderRead | Call::UnitRead => request.first = columns.bytes()?,
-        Call::Distance => {
-            request.first = columns.bytes()?;
-            request.second = columns.bytes()?;
-        }
-        Call::HeaderWrite => {
-            request.area = columns.number()?;
-            request.header = columns.header()?;
-        }
-        Call::UnitWrite => {
-            request.area = columns.number()?;
-            request.header = columns.header()?;
-            request.second = columns.bytes()?;
-        }
-        Call::Code | Call::Text => return None,
-        Call::Intake | Call::Base32Read | Call::Base32Write | Call::Join | Call::Split => {
-            request.area = columns.number()?;
-            request.first = columns.bytes()?;
-        }
-    }
-    Some(request)
-}
-
-fn parse_response(request: &Request, columns: &mut Columns) -> Option<Response> {
-    let mut response = Response::refused(columns.number()?);
-    match request.call {
-        Call::Strict => columns.told()?,
-        Call::Distance => response.values = [columns.number()?, columns.number()?, columns.bits()?, 0, 0],
-        Call::HeaderRead | Call::UnitRead => {
-            let [main_type, subtype, version, length] = columns.header()?.map(u64::from);
-            response.values = [main_type, subtype, version, length, columns.number()?];
-        }
-        Call::Code | Call::Text => return None,
-        Call::Intake | Call::Base32Read | Call::Join => {
-            response.values[0] = columns.number()?;
-            columns.told()?;
-            response.written = columns.bytes()?;
-        }
-        Call::Base32Write | Call::HeaderWrite | Call::UnitWrite | Call::Split => {
-            response.values[0] = columns.number()?;
-            response.written = columns.bytes()?;
-        }
-    }
-    if request.call == Call::UnitRead {
-        // The entry answers where the body ends; every permitted header is two bytes.
-        let body = columns.bytes()?;
-        let used = response.values[4] as usize;
-        let due = if response.number == 0 { request.first.get(2..used)? } else { &[] };
-        return (body == due).then_some(response);
-    }
-    Some(response)
 }
 
 /// One check for each pair of line files. Without a program none is counted, and the output says so.
@@ -315,23 +281,23 @@ fn line_files(options: &Options, tally: &mut Tally) {
         println!("missing: the line program; {} line files were not run", inputs.len());
         return;
     };
-    if inputs.is_empty() {
-        tally.check("line files", false, "none");
-    }
     if let Some(Only::File(only)) = &options.only {
         inputs.retain(|name| name == only);
     }
     for name in inputs {
-        let found = run_lines(program, &options.folder.join(&name));
-        let found = found.map_err(|error| format!("{program}: {error}\n  run again: {} {name}", options.again));
-        report(tally, &name, found);
+        let found = match run_lines(program, &options.folder.join(&name)) {
+            Ok(found) => found,
+            Err(error) => Err(format!("{program}: {error}")),
+        };
+        report(tally, &name, found.map_err(|why| format!("{why}\n  run again: {} {name}", options.again)));
     }
 }
 
-/// Hands a file over as it is, then through a pipe in pieces of several lengths.
-fn run_lines(program: &str, input: &Path) -> io::Result<String> {
+/// Hands a file over as it is, then through a pipe in pieces of several lengths. Tells every line that differs, of the
+/// first way that does.
+fn run_lines(program: &str, input: &Path) -> io::Result<Result<String, String>> {
     let bytes = fs::read(input)?;
-    let expected = fs::read(input.with_extension("out"))?;
+    let due = fs::read(input.with_extension("out"))?;
     let whole = Command::new(program).stdin(File::open(input)?).output()?;
     let mut outputs = vec![("a file".to_string(), whole)];
     for piece in [1, 7, 4096, bytes.len().max(1)] {
@@ -339,16 +305,16 @@ fn run_lines(program: &str, input: &Path) -> io::Result<String> {
             outputs.push((format!("pieces of {piece}"), piped(program, &bytes, piece)?));
         }
     }
-    for (way, output) in &outputs {
-        if !output.status.success() || output.stdout != expected {
-            let at = output.stdout.iter().zip(&expected).take_while(|(a, b)| a == b).count();
-            return Err(io::Error::other(format!("by {way}: {}, differs at offset {at}", output.status)));
+    for (way, Output { status, stdout, .. }) in &outputs {
+        if !status.success() || *stdout != due {
+            let bad = lines::differences(&bytes, &due, stdout);
+            return Ok(Err(format!("by {way}: {status}, {} lines differ{}", bad.len(), told::list(&bad))));
         }
     }
-    Ok(format!("{} bytes, handed over in {} ways", bytes.len(), outputs.len()))
+    Ok(Ok(format!("{} bytes, handed over in {} ways", bytes.len(), outputs.len())))
 }
 
-fn piped(program: &str, input: &[u8], piece: usize) -> io::Result<std::process::Output> {
+fn piped(program: &str, input: &[u8], piece: usize) -> io::Result<Output> {
     let mut child = Command::new(program).stdin(Stdio::piped()).stdout(Stdio::piped()).spawn()?;
     let mut stdin = child.stdin.take().expect("a pipe");
     let bytes = input.to_vec();
