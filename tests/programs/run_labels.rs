@@ -22,6 +22,11 @@ struct Labels {
 }
 
 impl Labels {
+    fn new(program: String, only: Option<u64>) -> Labels {
+        let library = Library::fenced(1 << 16, format!("{program} --only"));
+        Labels { library, block: "", met: 0, only, faults: Vec::new() }
+    }
+
     fn expect(&mut self, request: Request, due: Response) {
         self.met += 1;
         if self.only.is_some_and(|only| only != self.met) {
@@ -174,17 +179,27 @@ fn options() -> (String, Option<(String, u64)>) {
             _ => words.refuse(format!("no option is called '{word}'")),
         }
     }
-    let names = BLOCKS.map(|(name, _)| name);
-    if let Some((block, _)) = only.as_ref().filter(|(block, _)| !names.contains(&block.as_str())) {
-        words.refuse(format!("no block is called '{block}'; blocks: {}", names.join(" ")));
+    if let Some(why) = only.as_ref().and_then(fault) {
+        words.refuse(why);
     }
     (words.program, only)
 }
 
+/// What is wrong with the one label.
+fn fault((name, label): &(String, u64)) -> Option<String> {
+    let Some((_, block)) = BLOCKS.iter().find(|(known, _)| known == name) else {
+        return Some(format!("no block is called '{name}'; blocks: {}", BLOCKS.map(|(name, _)| name).join(" ")));
+    };
+    // Label 0 is none: all are counted and none is run.
+    let mut labels = Labels::new(String::new(), Some(0));
+    block(&mut labels);
+    let count = labels.met;
+    (!(1..=count).contains(label)).then(|| format!("'{name}' has no label {label}; it has {count}, counted from 1"))
+}
+
 fn main() -> ExitCode {
     let (program, only) = options();
-    let library = Library::fenced(1 << 16, format!("{program} --only"));
-    let mut labels = Labels { library, block: "", met: 0, only: only.as_ref().map(|only| only.1), faults: Vec::new() };
+    let mut labels = Labels::new(program, only.as_ref().map(|only| only.1));
     let mut tally = Tally::default();
     for (name, block) in BLOCKS {
         if only.as_ref().is_some_and(|(only, _)| only != name) {
@@ -193,13 +208,12 @@ fn main() -> ExitCode {
         (labels.block, labels.met) = (name, 0);
         block(&mut labels);
         let faults = std::mem::take(&mut labels.faults);
-        let none = labels.met == 0 || labels.only.is_some_and(|only| only == 0 || only > labels.met);
-        let detail = match (none, faults.is_empty()) {
-            (true, _) => format!("no such label; there are {}", labels.met),
-            (false, true) => "as written".to_string(),
-            (false, false) => format!("{} of {} labels{}", faults.len(), labels.met, faults.concat()),
+        let detail = match (labels.met, faults.is_empty()) {
+            (0, _) => "no label".to_string(),
+            (_, true) => "as written".to_string(),
+            (met, false) => format!("{} of {met} labels{}", faults.len(), faults.concat()),
         };
-        tally.check(&format!("labels, {name}"), !none && faults.is_empty(), detail);
+        tally.check(&format!("labels, {name}"), labels.met > 0 && faults.is_empty(), detail);
     }
     tally.finish()
 }
