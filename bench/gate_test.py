@@ -24,6 +24,7 @@ script.__file__ = str(TOP / "bench" / "gate")
 SourceFileLoader("gate", script.__file__).exec_module(script)
 
 RT = """#!/bin/sh
+[ "$1" != version ] || echo kit 1
 [ "$1" = ci ] || exit 0
 rm -rf target
 cat ci.out
@@ -126,7 +127,7 @@ class Gate(unittest.TestCase):
         answer = self.run_in("bench/gate")
         self.assertEqual((answer.returncode, answer.stderr), (0, ""))
         title, tables = answer.stdout.split("\n", 1)
-        self.assertRegex(title, r"^Taken on .+, \d+ cores\.$")
+        self.assertRegex(title, r"^Taken on .+, \d+ cores, with kit 1\.$")
         self.assertEqual(re.sub(r"\d+ min \d+ s", "N", tables), TABLES)
 
     def test_gate_that_fails(self) -> None:

@@ -2,7 +2,6 @@
 from __future__ import annotations
 
 import re
-import subprocess
 from dataclasses import dataclass
 from pathlib import Path
 
@@ -200,23 +199,14 @@ def check_crates(index: Index, tally: Tally) -> None:
 
 
 def check_readme(document: Document, tally: Tally) -> None:
-    """The toolchain is the one that is here, and the clerk's table has each number once."""
-    printed = toolchain()
-    tally.check(bool(printed), f"{document.path}: its toolchain was not compared, since there is no rt here")
+    """The toolchain is that of the gate whose times docs/BENCHMARKS.md has, and the clerk's table has each number once."""
+    used = re.findall(r"cores, with (.+)\.$", read("docs/BENCHMARKS.md"), re.M)
     told = [line.strip() for _, line in document.code if line.strip().startswith("rattle-")]
-    if printed:
-        tally.check(told == [printed], f"{document.path}: it names {told}, and `rt version` prints {printed}")
+    tally.check(bool(used) and told == used, f"{document.path}: it names {told}, and docs/BENCHMARKS.md {used}")
     rows = refusal_rows(document)
     for number in range(1, 15):
         count = rows.count(number)
         tally.check(count == 1, f"{document.path}: the refusal {number} has {count} rows in the table")
-
-
-def toolchain() -> str:
-    try:
-        return subprocess.run(["rt", "version"], capture_output=True, text=True, timeout=20).stdout.strip()
-    except OSError:
-        return ""
 
 
 def refusal_rows(document: Document) -> list[int]:
