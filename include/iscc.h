@@ -2,21 +2,29 @@
  * The C interface of the console: both doors, the code of a text and the text of a code, join and
  * split, and the distance between two units.
  *
- * Linking. `./install PREFIX` makes the shared and the static library and a pkg-config file:
+ * Linking. pkg-config knows where this header and its libraries are installed:
  *
  *   gcc program.c $(pkg-config --cflags --libs iscc)
  *
- * Or link the archive itself, target/staticlib/libconsole.a (`rt staticlib console`); it is enough
- * for everything in this header. The same source gives the same libraries byte for byte, in
- * whatever folder they are built.
+ * A program can also be linked with the static library alone, libiscc.a, which lies beside the
+ * shared one; it is enough for everything in this header.
+ *
+ * In the source repository `./install PREFIX` makes and installs all of this, and
+ * `rt staticlib console` makes the static library alone, target/staticlib/libconsole.a. The same
+ * source, with the same rt and gcc, gives the same libraries byte for byte, in whatever folder they
+ * are built.
  *
  * No memory is taken and nothing is kept between calls, so that every entry may run in several
  * threads at once.
  *
+ * Words. An item is one unit or one composite: the bytes of its header and its body. A list is two
+ * or more items laid end to end.
+ *
  * Areas. An area is a pointer and a length in bytes. It must be as long as stated, and an area for
  * writing must not overlap one for reading; nothing else is taken on trust. A null pointer with
  * length 0 is an empty area. Text is bytes: it needs no NUL at its end, and none is written.
- *   - Areas for reading keep their bytes.
+ *   - Areas for reading keep their bytes. They may overlap each other: a unit may be compared with
+ *     itself.
  *   - On success the answer's `length` bytes are written at the start of the output area; the bytes
  *     behind them keep theirs.
  *   - A refusal leaves every byte of the output area, and every other number of the answer is zero.
@@ -32,8 +40,10 @@ extern "C" {
 #endif
 
 /*
- * The version of this header. The shared library's name has the major version, so that a program
- * built for one does not start with another.
+ * The version of this header. The shared library's name has the major version alone, libiscc.so.0,
+ * so that a program built for one major version does not start with another. Before 1.0 a new minor
+ * version may change answers under the same name: a program that minds compares iscc_version() with
+ * ISCC_VERSION.
  */
 #define ISCC_VERSION_MAJOR 0
 #define ISCC_VERSION_MINOR 1
@@ -47,7 +57,7 @@ uint32_t iscc_version(void);
 
 /*
  * What a call answers: ISCC_OK or the number of a refusal. No call gives all of them; each names
- * its own below.
+ * its own below, in the order of its tests. The first test that fails gives the number.
  */
 enum iscc_number {
     ISCC_OK = 0,
@@ -57,25 +67,25 @@ enum iscc_number {
     ISCC_BAD_CHARACTER = 4,           /* a character is not of the alphabet: A-Z, a-z, 2-7 */
     ISCC_BAD_COUNT = 5,               /* the count leaves 1, 3 or 6 over a multiple of 8 */
     ISCC_SPARE_BITS = 6,              /* a spare bit after the last whole byte is not zero */
-    ISCC_BAD_HEADER = 7,              /* a header is cut, starts 1111, or has a pad not zero */
-    ISCC_NOT_PERMITTED = 8,           /* a header not permitted; for split, no composite's */
+    ISCC_BAD_HEADER = 7,              /* header cut, number that starts 1111, or pad nibble not 0 */
+    ISCC_NOT_PERMITTED = 8,           /* a header is not permitted; for split, not a composite's */
     ISCC_SHORT_BODY = 9,              /* fewer body bytes than the header says */
-    ISCC_NOT_JOINABLE = 10,           /* a composite or an ID among items, or joined alone */
+    ISCC_NOT_JOINABLE = 10,           /* a composite or an ID in a list, or joined alone */
     ISCC_NOT_64_BITS = 11,            /* a unit in a list is not of 64 bits */
     ISCC_MAIN_TYPE_TWICE = 12,        /* a main type is twice in a list */
-    ISCC_LACKS_DATA_OR_INSTANCE = 13, /* a list lacks DATA or INSTANCE */
-    ISCC_SUBTYPES_DIFFER = 14,        /* SEMANTIC and CONTENT differ in subtype */
+    ISCC_LACKS_DATA_OR_INSTANCE = 13, /* a list lacks DATA or INSTANCE, or one unit joined alone */
+    ISCC_SUBTYPES_DIFFER = 14,        /* SEMANTIC and CONTENT of a list differ in subtype */
     ISCC_AREA_TOO_SHORT = 15,         /* the output area is too short */
     ISCC_OTHER_TEXT = 16,             /* strict door: intake would write another text */
     ISCC_NUMBER_TOO_LARGE = 17,       /* above 4679 in a header; by no call of this header */
-    ISCC_NO_DISTANCE = 18,            /* two units that have no distance */
-    ISCC_BYTES_LEFT_OVER = 19         /* bytes left over where exactly one unit is wanted */
+    ISCC_NO_DISTANCE = 18,            /* the two items have no distance */
+    ISCC_BYTES_LEFT_OVER = 19         /* bytes left over where exactly one item is wanted */
 };
 
 /*
  * A plain English sentence for a number, on one line, to be shown to a person. It is never null and
- * need not be freed. These are words and not proved; they stand here so that the archive alone is
- * enough. The shared library has the same function for other languages (include/exports.c).
+ * need not be freed. These are words and not proved; they stand here so that the static library is
+ * enough. The shared library has the same function, for languages that read no header.
  */
 #ifndef ISCC_INLINE
 #define ISCC_INLINE static inline
@@ -89,28 +99,31 @@ ISCC_INLINE const char *iscc_refusal_text(uint32_t number) {
     case ISCC_BAD_CHARACTER: return "A character is neither a letter A to Z nor a digit 2 to 7.";
     case ISCC_BAD_COUNT: return "No code has this many characters: some are missing or too many.";
     case ISCC_SPARE_BITS: return "The last character is wrong, or the end of the code is missing.";
-    case ISCC_BAD_HEADER: return "The first characters of a unit are wrong, or a unit is cut off.";
-    case ISCC_NOT_PERMITTED: return "A unit is of a kind or a length that is not permitted here.";
-    case ISCC_SHORT_BODY: return "A unit is shorter than its first characters say.";
+    case ISCC_BAD_HEADER: return "The beginning of a code or unit cannot be read.";
+    case ISCC_NOT_PERMITTED: return "A code or unit is of a kind or a length that is not permitted here.";
+    case ISCC_SHORT_BODY: return "A code or unit is cut off: it is shorter than its beginning says.";
     case ISCC_NOT_JOINABLE: return "A composite or an ID cannot be joined.";
     case ISCC_NOT_64_BITS: return "A unit to be joined has a length other than 64 bits.";
-    case ISCC_MAIN_TYPE_TWICE: return "Two units have the same main type.";
+    case ISCC_MAIN_TYPE_TWICE: return "Two units are of the same kind.";
     case ISCC_LACKS_DATA_OR_INSTANCE: return "The DATA or the INSTANCE unit is missing.";
-    case ISCC_SUBTYPES_DIFFER: return "The SEMANTIC and the CONTENT unit differ in subtype.";
+    case ISCC_SUBTYPES_DIFFER: return "The SEMANTIC and the CONTENT unit do not match in subtype.";
     case ISCC_AREA_TOO_SHORT: return "The area for the answer is too short.";
     case ISCC_OTHER_TEXT: return "The code is good, but not in its one strict spelling.";
     case ISCC_NUMBER_TOO_LARGE: return "A number above 4679 cannot be written in a header.";
-    case ISCC_NO_DISTANCE: return "These two units have no distance.";
+    case ISCC_NO_DISTANCE: return "These two have no distance.";
     case ISCC_BYTES_LEFT_OVER: return "Bytes are left over after the code.";
     default: return "There is no such number.";
     }
 }
 
-/* The longest text that is written, and the least length of an output area for one. */
+/* The longest text that is written, and the least output area of iscc_intake and iscc_text. */
 #define ISCC_TEXT_AREA 73
 
-/* The longest code in bytes, and the least length of an output area for one. */
+/* The longest code in bytes, and the least output area of iscc_code; enough for iscc_join. */
 #define ISCC_CODE_AREA 42
+
+/* The most bytes that iscc_split writes: five units. */
+#define ISCC_SPLIT_AREA 50
 
 /* ISCC_OK and the count of bytes written, or a refusal and 0. */
 typedef struct {
@@ -134,9 +147,8 @@ typedef struct {
  * The intake door: reads a code as it was typed (blanks at both ends, the scheme in any letter
  * case, hyphens, either case, units in any order) and writes its one text, `ISCC:` and capitals.
  *
- * Refusals, in the order of their tests: 15 where the area is below ISCC_TEXT_AREA bytes, whatever
- * the text; 2, 1, 3, 4, 5, 6; then 7, 8, 9 for each unit from the left; then, for two or more
- * items, 10 to 14.
+ * Refusals: 15 where the area is below ISCC_TEXT_AREA bytes, whatever the text; 2, 1, 3, 4, 5, 6;
+ * then 7, 8, 9 for each item from the left; then, for a list, 10 to 14.
  */
 iscc_written iscc_intake(const uint8_t *text, size_t text_len, uint8_t *out, size_t out_len);
 
@@ -156,7 +168,7 @@ uint32_t iscc_strict(const uint8_t *text, size_t text_len);
 iscc_written iscc_code(const uint8_t *text, size_t text_len, uint8_t *out, size_t out_len);
 
 /*
- * The text of a code: writes the one text of the unit or composite that the bytes are.
+ * The text of a code: writes the one text of the item that the bytes are.
  *
  * Refusals: 15 where the area is below ISCC_TEXT_AREA bytes, whatever the code; then 7, 8, 9, 19 of
  * the bytes.
@@ -166,16 +178,17 @@ iscc_written iscc_text(const uint8_t *code, size_t code_len, uint8_t *out, size_
 /*
  * Joins units laid end to end to the composite that they make, whatever their order.
  *
- * Refusals: 7, 8, 9 for each unit from the left (no bytes are 7); of one item alone 10 for a
- * composite or an ID, else 13; of more 10 to 14; then 15 where the area is shorter than the
- * composite (18 to 42 bytes).
+ * Refusals: 7, 8, 9 for each item from the left (no bytes are 7); of one item alone 10 for a
+ * composite or an ID, else 13, whatever its length; of a list 10 to 14; then 15 where the area is
+ * shorter than the composite (18, 26, 34 or 42 bytes).
  */
 iscc_written iscc_join(const uint8_t *units, size_t units_len, uint8_t *out, size_t out_len);
 
 /*
  * Splits a composite into its units, laid end to end in the composite's order: 10 bytes for each.
  *
- * Refusals: 7, 8, 9, 19 of the bytes, then 8 for anything but a composite, then 15.
+ * Refusals: 7, 8, 9, 19 of the bytes, then 8 for anything but a composite, then 15 where the area
+ * is shorter than the units (20, 30, 40 or 50 bytes).
  */
 iscc_written iscc_split(const uint8_t *code, size_t code_len, uint8_t *out, size_t out_len);
 

@@ -1,7 +1,7 @@
 /*
  * What a program sees of an installed library, in C and in C++: prints the version, then each
- * number with its sentence. The exit status is 1 where the header's version is not the library's,
- * or a sentence could not be shown to a person.
+ * number with its sentence. The exit status is 1 where the header's version is not the library's, a
+ * sentence could not be shown to a person, or it is not the one that stands here.
  */
 #include <iscc.h>
 
@@ -9,6 +9,32 @@
 #include <string.h>
 
 static int wrong = 0;
+
+/* Once more, by number: a sentence that changes places with another would still be a sentence. */
+static const char *const due[] = {
+    "Accepted.",
+    "There is no code in the text.",
+    "The text is longer than 1,024 bytes.",
+    "The code has more than 80 characters.",
+    "A character is neither a letter A to Z nor a digit 2 to 7.",
+    "No code has this many characters: some are missing or too many.",
+    "The last character is wrong, or the end of the code is missing.",
+    "The beginning of a code or unit cannot be read.",
+    "A code or unit is of a kind or a length that is not permitted here.",
+    "A code or unit is cut off: it is shorter than its beginning says.",
+    "A composite or an ID cannot be joined.",
+    "A unit to be joined has a length other than 64 bits.",
+    "Two units are of the same kind.",
+    "The DATA or the INSTANCE unit is missing.",
+    "The SEMANTIC and the CONTENT unit do not match in subtype.",
+    "The area for the answer is too short.",
+    "The code is good, but not in its one strict spelling.",
+    "A number above 4679 cannot be written in a header.",
+    "These two have no distance.",
+    "Bytes are left over after the code.",
+    "There is no such number.",
+};
+typedef char one_for_each[sizeof due / sizeof due[0] == ISCC_BYTES_LEFT_OVER + 2 ? 1 : -1];
 
 static void expect(int holds, const char *what, uint32_t number) {
     if (holds) return;
@@ -39,6 +65,7 @@ static void check_words(uint32_t number) {
     const char *words = iscc_refusal_text(number);
     uint32_t other;
     expect(is_sentence(words), "no sentence", number);
+    expect(strcmp(words, due[number]) == 0, "another sentence", number);
     for (other = 0; other < number; other++)
         expect(strcmp(words, iscc_refusal_text(other)) != 0, "the words of another number", number);
     printf("%lu %s\n", (unsigned long)number, words);
