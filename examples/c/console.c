@@ -1,6 +1,7 @@
 /*
  * Labels from the counter, as a console takes them in: one is written as its one text, and two are
- * compared. A label that is refused is told with its number and a sentence.
+ * compared. A label that is refused is told with its number and a sentence. Without labels it takes
+ * two of its own. The exit status is 1 where a label is refused, and 2 for a wrong count of labels.
  *
  *   ./install target/installed
  *   export PKG_CONFIG_PATH=$PWD/target/installed/lib/pkgconfig
@@ -44,6 +45,10 @@ int main(int count, char **words) {
     uint8_t text[ISCC_TEXT_AREA];
     code a, b;
 
+    if (count != 1 && count != 3) {
+        fprintf(stderr, "usage: console [LABEL LABEL]\n");
+        return 2;
+    }
     if (!code_of(one, &a) || !code_of(two, &b)) return 1;
     iscc_written written = iscc_text(a.bytes, a.length, text, sizeof text);
     printf("%.*s\n", (int)written.length, (const char *)text);
