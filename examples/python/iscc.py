@@ -55,7 +55,7 @@ _MAJOR = 0  # the major version of the library that this module is written for
 _TEXT_AREA = 73  # the longest text that is written
 _CODE_AREA = 42  # the longest code
 _UNIT_BYTES = 10  # each unit of a composite, as split writes it
-_SPLIT_AREA = 5 * _UNIT_BYTES  # a composite has five units at most
+_SPLIT_AREA = 50  # the most that split writes: five units
 
 
 class Refusal(enum.IntEnum):
@@ -211,6 +211,10 @@ def version() -> str:
 
 def refusal_text(number: int) -> str:
     """A plain English sentence for a number of refusal."""
+    if not isinstance(number, int):
+        raise TypeError(f"a number of refusal is an int, not {type(number).__name__}")
+    if not 0 <= number < 2**32:
+        raise ValueError(f"a number of refusal is from 0 to {2**32 - 1}, not {number}")
     sentence: bytes = _library().iscc_refusal_text(number)
     return sentence.decode("ascii")
 

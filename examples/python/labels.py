@@ -1,14 +1,18 @@
 """Labels from the counter, from Python: writes the one text of each label, or why it is refused.
 
+usage: python3 examples/python/labels.py [--help | LABEL..]
+
     ./install target/installed
     python3 examples/python/labels.py 'gaaw2prcrs5lnvzv-iaauvacqkxe3v44w'
 
 Without labels it takes some of its own, and also shows codes and the distance. The exit status is 1
-where one of the labels that were given is refused, or the library is missing.
+where one of the labels that were given is refused, the library is missing, or the answers cannot be
+written.
 """
 
 from __future__ import annotations
 
+import os
 import sys
 
 import iscc
@@ -37,7 +41,11 @@ def demonstrate() -> None:
     show("GAAW2PRCRS5LNVZ0")
 
 
-def main(labels: list[str]) -> int:
+def answer(labels: list[str]) -> int:
+    """Writes all that is asked for; the exit status."""
+    if labels == ["--help"]:
+        print(__doc__, end="")
+        return 0
     if not labels:
         demonstrate()
         return 0
@@ -45,8 +53,21 @@ def main(labels: list[str]) -> int:
     return 0 if all(accepted) else 1
 
 
-if __name__ == "__main__":
+def main(labels: list[str]) -> int | str:
+    """The exit status, or what is said on standard error with status 1."""
+    if sys.stdout is None:
+        return "cannot write: standard output is closed"
     try:
-        sys.exit(main(sys.argv[1:]))
+        status = answer(labels)
+        sys.stdout.flush()
     except iscc.LibraryMissing as missing:
-        sys.exit(str(missing))
+        return str(missing)
+    except OSError as error:
+        # What is still to be written goes nowhere, so that Python does not try again at its end.
+        os.dup2(os.open(os.devnull, os.O_WRONLY), sys.stdout.fileno())
+        return f"cannot write: {error.strerror}"
+    return status
+
+
+if __name__ == "__main__":
+    sys.exit(main(sys.argv[1:]))

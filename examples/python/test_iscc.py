@@ -34,7 +34,9 @@ TYPED = "iaauvacqkxe3v44w-gaaw2prcrs5lnvzv"
 WRITTEN = "ISCC:KUAG2PRCRS5LNVZVJKAFAVOJXLZZM"
 DATA = bytes.fromhex("30016d3e228cbab6d735")
 INSTANCE = bytes.fromhex("40014a805055c9baf396")
-
+META = bytes.fromhex("0001") + b"\x11" * 8
+SEMANTIC = bytes.fromhex("1201") + b"\x22" * 8
+CONTENT = bytes.fromhex("2201") + b"\x33" * 8
 
 Call = Callable[..., object]
 
@@ -47,9 +49,9 @@ def answer(call: Call, *arguments: object) -> object:
         return refused.number
 
 
-def in_a_process(code: str, module: pathlib.Path, library: str | None) -> str:
+def in_a_process(code: str, module: pathlib.Path, library: str | None, **more: str) -> str:
     """What a Python of its own prints that finds the module in a folder; errors are printed too."""
-    environment = {**os.environ, "PYTHONPATH": str(module), "PYTHONDONTWRITEBYTECODE": "1"}
+    environment = {**os.environ, "PYTHONPATH": str(module), "PYTHONDONTWRITEBYTECODE": "1", **more}
     environment.pop("ISCC_LIBRARY", None)
     if library is not None:
         environment["ISCC_LIBRARY"] = library
@@ -86,6 +88,14 @@ class Header(unittest.TestCase):
         for number in (len(iscc.Refusal) + 1, 2**32 - 1):
             self.assertEqual(iscc.refusal_text(number), "There is no such number.")
 
+    def test_number_out_of_range(self) -> None:
+        for number in (-1, 2**32, 2**32 + 4, 2**64):
+            said = f"a number of refusal is from 0 to 4294967295, not {number}"
+            self.assertRaisesRegex(ValueError, f"^{said}$", iscc.refusal_text, number)
+            self.assertRaisesRegex(ValueError, f"^{said}$", iscc.Refused, number)
+        wrong: Call = iscc.refusal_text
+        self.assertRaisesRegex(TypeError, "^a number of refusal is an int, not str$", wrong, "4")
+
     def test_version(self) -> None:
         self.assertEqual(f'"{iscc.version()}"', self.defined("ISCC_VERSION_TEXT"))
         self.assertEqual(str(iscc._MAJOR), self.defined("ISCC_VERSION_MAJOR"))
@@ -93,6 +103,18 @@ class Header(unittest.TestCase):
     def test_areas(self) -> None:
         self.assertEqual(str(iscc._TEXT_AREA), self.defined("ISCC_TEXT_AREA"))
         self.assertEqual(str(iscc._CODE_AREA), self.defined("ISCC_CODE_AREA"))
+        self.assertEqual(str(iscc._SPLIT_AREA), self.defined("ISCC_SPLIT_AREA"))
+
+    def test_star(self) -> None:
+        public = {
+            name
+            for name, value in vars(iscc).items()
+            if getattr(value, "__module__", None) == "iscc" and not name.startswith("_")
+        }
+        given: dict[str, object] = {}
+        exec("from iscc import *", given)
+        self.assertEqual(given.keys() - {"__builtins__"}, set(iscc.__all__))
+        self.assertEqual(public | {"Bytes", "Text"}, set(iscc.__all__))
 
 
 class Vectors(unittest.TestCase):
@@ -160,6 +182,28 @@ class Texts(unittest.TestCase):
         self.assertIsNone(answer(iscc.strict, WRITTEN))
         self.assertIs(iscc.is_strict(WRITTEN), True)
 
+    def test_str_at_the_strict_door(self) -> None:
+        typed = "iscc:maagztfqttvizpjr"
+        self.assertIs(iscc.is_strict(typed), False)
+        self.assertEqual(answer(iscc.strict, typed), 16)
+        self.assertIs(iscc.is_strict(iscc.intake(typed)), True)
+        self.assertIsNone(answer(iscc.strict, iscc.intake(typed)))
+
+    def joined(self, start: str, *units: bytes) -> None:
+        """Units in their order, their composite, and the same from other orders."""
+        due = bytes.fromhex(start) + b"".join(unit[2:] for unit in units)
+        self.assertEqual(iscc.join(*units), due)
+        self.assertEqual(iscc.join(*reversed(units)), due)
+        self.assertEqual(iscc.join(b"".join(units[1:]), units[0]), due)
+        self.assertEqual(iscc.split(due), list(units))
+
+    def test_join(self) -> None:
+        self.joined("5207", META, SEMANTIC, CONTENT, DATA, INSTANCE)
+        self.joined("5202", SEMANTIC, DATA, INSTANCE)
+        self.assertEqual(answer(iscc.join), 7)
+        self.assertEqual(answer(iscc.join, b""), 7)
+        self.assertEqual(answer(iscc.join, DATA), 13)
+
     def test_distance_by_name(self) -> None:
         far = iscc.distance(iscc.code("gaaaaaaaaa"), iscc.code("GAAP6-AAAAE"))
         self.assertEqual((far.d, far.n, far.ratio), (9, 32, 0.28125))
@@ -184,13 +228,20 @@ class Texts(unittest.TestCase):
     def test_other_types(self) -> None:
         of_texts: list[Call] = [iscc.intake, iscc.strict, iscc.is_strict, iscc.code]
         of_codes: list[Call] = [iscc.text, iscc.join, iscc.split]
-        for given in (5, None, 1.5, [71], ["GAA"]):
+        others = {"int": 5, "NoneType": None, "float": 1.5, "list": [71], "tuple": ("GAA",)}
+        for name, given in others.items():
             for call in of_texts:
-                self.assertRaisesRegex(TypeError, "a text is a str or bytes", call, given)
+                said = f"^a text is a str or bytes, not {name}$"
+                self.assertRaisesRegex(TypeError, said, call, given)
+            said = f"^a code is bytes, not {name}$"
             for call in of_codes:
-                self.assertRaisesRegex(TypeError, "a code is bytes", call, given)
-            self.assertRaisesRegex(TypeError, "a code is bytes", iscc.distance, DATA, given)
-        self.assertRaisesRegex(TypeError, r"code\(\) gives the code", iscc.text, WRITTEN)
+                self.assertRaisesRegex(TypeError, said, call, given)
+            self.assertRaisesRegex(TypeError, said, iscc.join, DATA, given)
+            self.assertRaisesRegex(TypeError, said, iscc.distance, DATA, given)
+            self.assertRaisesRegex(TypeError, said, iscc.distance, given, DATA)
+        said = r"^a code is bytes, not str; code\(\) gives the code of a text$"
+        for call in of_codes:
+            self.assertRaisesRegex(TypeError, said, call, WRITTEN)
 
 
 class Refusals(unittest.TestCase):
@@ -229,11 +280,43 @@ class Library(unittest.TestCase):
         self.folder = pathlib.Path(folder.name)
         self.library = iscc._library()._name
 
+    def a_repository(self) -> tuple[pathlib.Path, str]:
+        """A repository with the module and a library: the module's folder, the library's path."""
+        top = self.folder / "repository"
+        module = top / "examples" / "python"
+        for folder in (module, top / "include", top / "target/installed/lib"):
+            folder.mkdir(parents=True)
+        shutil.copy(HERE / "iscc.py", module)
+        shutil.copy(TOP / "include" / "iscc.h", top / "include")
+        return module, str(shutil.copy(self.library, top / "target/installed/lib/libiscc.so"))
+
     def test_missing(self) -> None:
-        tried = "import iscc\ntry: iscc.version()\nexcept OSError as e: print(type(e).__name__, e)"
-        said = in_a_process(tried, HERE, str(self.folder / "libiscc.so"))
-        self.assertTrue(said.startswith("LibraryMissing the ISCC library cannot be loaded"), said)
-        self.assertIn("./install target/installed", said)
+        path = str(self.folder / "libiscc.so")
+        said = in_a_process("import iscc; iscc.version()", HERE, path)
+        self.assertEqual(
+            said.splitlines()[-1],
+            f"iscc.LibraryMissing: the ISCC library cannot be loaded ({path}: cannot open shared"
+            " object file: No such file or directory). `./install target/installed` at the top of"
+            " the repository makes it; elsewhere set ISCC_LIBRARY to the path of libiscc.so",
+        )
+        self.assertEqual(said.count("Traceback"), 1, said)
+
+    def test_errors_of_one_kind(self) -> None:
+        self.assertTrue(issubclass(iscc.WrongLibrary, iscc.LibraryMissing))
+        self.assertTrue(issubclass(iscc.LibraryMissing, OSError))
+
+    def test_where_the_system_looks(self) -> None:
+        away = self.folder / "away"
+        away.mkdir()
+        shutil.copy(HERE / "iscc.py", away)
+        shutil.copy(self.library, away / "libiscc.so.0")
+        print_maps = (
+            "import iscc; iscc.version(); lines = open('/proc/self/maps').read().splitlines();"
+            " print({line.split(None, 5)[-1] for line in lines if 'libiscc' in line})"
+        )
+        folders = f"{away}:{os.environ.get('LD_LIBRARY_PATH', '')}"
+        said = in_a_process(print_maps, away, None, LD_LIBRARY_PATH=folders)
+        self.assertEqual(said, f"{ {str(away / 'libiscc.so.0')} }\n")
 
     def test_copied_away(self) -> None:
         shutil.copy(HERE / "iscc.py", self.folder)
@@ -241,18 +324,20 @@ class Library(unittest.TestCase):
         self.assertEqual(said, iscc.version() + "\n")
 
     def test_in_a_repository(self) -> None:
-        module = self.folder / "examples" / "python"
-        for folder in (module, self.folder / "include", self.folder / "target/installed/lib"):
-            folder.mkdir(parents=True)
-        shutil.copy(HERE / "iscc.py", module)
-        shutil.copy(TOP / "include" / "iscc.h", self.folder / "include")
-        built = shutil.copy(self.library, self.folder / "target/installed/lib/libiscc.so")
-        said = in_a_process("import iscc; print(iscc._library()._name)", module, None)
-        self.assertEqual(said, f"{built}\n")
+        module, built = self.a_repository()
+        linked = self.folder / "linked"
+        linked.mkdir()
+        (linked / "iscc.py").symlink_to(module / "iscc.py")
+        print_name = "import iscc; print(iscc._library()._name)"
+        self.assertEqual(in_a_process(print_name, module, None), f"{built}\n")
+        self.assertEqual(in_a_process(print_name, module, ""), f"{built}\n")
+        self.assertEqual(in_a_process(print_name, linked, None), f"{built}\n")
+        self.assertEqual(in_a_process(print_name, module, self.library), f"{self.library}\n")
 
     def test_another_library(self) -> None:
         said = in_a_process("import iscc; iscc.version()", HERE, "libc.so.6")
         self.assertIn("WrongLibrary: libc.so.6 is no library of this module", said)
+        self.assertEqual(said.count("Traceback"), 1, said)
 
     def test_another_major_version(self) -> None:
         names = set(re.findall(r"[ *](iscc_[a-z_]+)\(", HEADER)) - {"iscc_version"}
@@ -291,16 +376,19 @@ class Threads(unittest.TestCase):
 class Example(unittest.TestCase):
     """labels.py writes what the README shows."""
 
-    def run_labels(self, *labels: str, library: str | None = None) -> tuple[int, str]:
+    def run_labels(
+        self, *labels: str, library: str | None = None, output: int = subprocess.PIPE
+    ) -> tuple[int, str]:
         environment = {**os.environ, "ISCC_LIBRARY": library or iscc._library()._name}
         run = subprocess.run(
             [sys.executable, "-B", str(HERE / "labels.py"), *labels],
             env=environment,
-            capture_output=True,
+            stdout=output,
+            stderr=subprocess.PIPE,
             text=True,
             check=False,
         )
-        return run.returncode, run.stdout + run.stderr
+        return run.returncode, (run.stdout or "") + run.stderr
 
     def test_own_labels(self) -> None:
         lines = (
@@ -319,6 +407,29 @@ class Example(unittest.TestCase):
         status, said = self.run_labels("", TYPED)
         self.assertEqual(status, 1)
         self.assertEqual(said, f"'': {iscc.Refused(1)}\n{WRITTEN}\n")
+
+    def test_help(self) -> None:
+        status, said = self.run_labels("--help")
+        self.assertEqual(status, 0)
+        self.assertIn("\nusage: python3 examples/python/labels.py", said)
+
+    def test_output_that_cannot_be_written(self) -> None:
+        with open("/dev/full", "wb") as full:
+            said = self.run_labels(TYPED, output=full.fileno())
+        self.assertEqual(said, (1, "cannot write: No space left on device\n"))
+        reader, writer = os.pipe()
+        os.close(reader)
+        said = self.run_labels(TYPED, output=writer)
+        os.close(writer)
+        self.assertEqual(said, (1, "cannot write: Broken pipe\n"))
+
+    def test_closed_output(self) -> None:
+        command = [sys.executable, "-B", str(HERE / "labels.py"), TYPED]
+        run = subprocess.run(
+            ["sh", "-c", 'exec "$@" >&-', "sh", *command], stderr=subprocess.PIPE, check=False
+        )
+        self.assertEqual(run.returncode, 1)
+        self.assertEqual(run.stderr, b"cannot write: standard output is closed\n")
 
     def test_no_library(self) -> None:
         status, said = self.run_labels(TYPED, library=str(HERE / "libiscc.so"))
