@@ -380,6 +380,7 @@ class Example(unittest.TestCase):
         self, *labels: str, library: str | None = None, output: int = subprocess.PIPE
     ) -> tuple[int, str]:
         environment = {**os.environ, "ISCC_LIBRARY": library or iscc._library()._name}
+        environment.pop("PYTHONUNBUFFERED", None)  # it would hide what fails at the end
         run = subprocess.run(
             [sys.executable, "-B", str(HERE / "labels.py"), *labels],
             env=environment,
