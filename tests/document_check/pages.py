@@ -63,9 +63,14 @@ def open_document(path: str) -> Document:
     return Document(path, lines, prose, code)
 
 
+# Notes of past landings stay as they landed: they speak of their own time, and names may be gone since. A landing adds the
+# note before its own.
+PAST = {"docs/landings/ground.md"}
+
+
 def documents(index: Index) -> list[str]:
     found = [p for p in ("README.md", "CONTRIBUTING.md", "include/iscc.h") if p in index.paths]
-    return found + sorted(p for p in index.paths if re.match(r"(docs|tests)/.*\.md$", p))
+    return found + sorted(p for p in index.paths - PAST if re.match(r"(docs|tests)/.*\.md$", p))
 
 
 def paragraphs(lines: list[str]) -> Iterator[tuple[int, str]]:
