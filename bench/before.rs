@@ -6,10 +6,12 @@ mod inputs;
 #[allow(dead_code)]
 #[path = "../tests/compare/random.rs"]
 mod random;
+mod registers;
 mod revisions;
 mod rows;
 mod turns;
 
+use registers::{Register, BORROWER};
 use revisions::{Entries, Entry};
 use rows::Row;
 use std::process::exit;
@@ -28,12 +30,14 @@ enum Answer {
     Written((u32, usize)),
     Tested(u32),
     Measured((u32, u32, u32, f32)),
+    Held((u32, u32)),
 }
 
 impl Answer {
     fn number(&self) -> u32 {
         match *self {
-            Answer::Written((number, _)) | Answer::Tested(number) | Answer::Measured((number, ..)) => number,
+            Answer::Written((number, _)) | Answer::Tested(number) => number,
+            Answer::Measured((number, ..)) | Answer::Held((number, _)) => number,
         }
     }
 }
@@ -48,20 +52,24 @@ fn name_left_out(rows: &[Row]) {
     }
 }
 
-fn answer(entry: Entry, row: &Row, input: &[u8]) -> (Answer, Vec<u8>) {
-    let mut area = row.area();
+fn answer(entry: Entry, row: &Row, case: usize) -> (Answer, Vec<u8>) {
+    let input = &row.inputs[case];
+    let mut area = row.registers.get(case).map_or_else(|| row.area(), |register| register.area.clone());
     let answer = match entry {
         Entry::Writer(entry) => Answer::Written(entry::write(entry, input, &mut area)),
         Entry::Test(entry) => Answer::Tested(entry::test(entry, input)),
         Entry::Measure(entry) => Answer::Measured(entry::measure(entry, input, &row.inputs[0])),
+        Entry::Issue(entry) => Answer::Tested(entry::issue(entry, input, BORROWER, &mut area)),
+        Entry::Return(entry) => Answer::Tested(entry::take_back(entry, input, &mut area)),
+        Entry::Ask(entry) => Answer::Held(entry::ask(entry, input, &area)),
     };
     (answer, area)
 }
 
 /// Whether both answer alike, and with the number that the row states.
 fn alike(row: &Row, sides: Sides) -> bool {
-    row.inputs.iter().all(|input| {
-        let [before, after] = sides.map(|entry| answer(entry, row, input));
+    row.inputs.iter().enumerate().all(|(case, input)| {
+        let [before, after] = sides.map(|entry| answer(entry, row, case));
         let stated = after.0.number() == row.number;
         if !stated {
             eprintln!("not as stated: {row}: {:?} after", after.0);
@@ -75,12 +83,27 @@ fn alike(row: &Row, sides: Sides) -> bool {
     })
 }
 
-/// Calls on the inputs in turn. The area is never cleared: each call writes over what the last one wrote.
-fn run(entry: Entry, row: &Row, area: &mut [u8], calls: usize) {
+/// What the calls of a row write to.
+struct Areas {
+    /// Never cleared: each call writes over what the last one wrote.
+    area: Vec<u8>,
+    /// Each is put back behind a call.
+    registers: Vec<Register>,
+}
+
+/// Calls on the inputs in turn.
+fn run(entry: Entry, row: &Row, Areas { area, registers }: &mut Areas, calls: usize) {
     match entry {
         Entry::Writer(entry) => over(&row.inputs, calls, |input| entry::write(entry, input, area)),
         Entry::Test(entry) => over(&row.inputs, calls, |input| entry::test(entry, input)),
         Entry::Measure(entry) => over(&row.inputs, calls, |input| entry::measure(entry, input, &row.inputs[0])),
+        Entry::Issue(entry) => {
+            registers::over(&row.inputs, registers, calls, |text, area| entry::issue(entry, text, BORROWER, area))
+        }
+        Entry::Return(entry) => {
+            registers::over(&row.inputs, registers, calls, |text, area| entry::take_back(entry, text, area))
+        }
+        Entry::Ask(entry) => registers::over(&row.inputs, registers, calls, |text, area| entry::ask(entry, text, area)),
     }
 }
 
@@ -91,10 +114,10 @@ fn fastest(times: &[f64], one_in: usize) -> f64 {
 }
 
 fn measure(row: &Row, sides: Sides) {
-    // One area for both sides, so that they differ in nothing but the entry.
-    let mut area = row.area();
-    let calls = calls_in(TURN, |calls| run(sides[0], row, &mut area, calls));
-    let mut times = in_turns(ROUNDS, [calls; 2], |side, calls| run(sides[side], row, &mut area, calls));
+    // The same areas for both sides, so that they differ in nothing but the entry.
+    let mut areas = Areas { area: row.area(), registers: row.registers.clone() };
+    let calls = calls_in(TURN, |calls| run(sides[0], row, &mut areas, calls));
+    let mut times = in_turns(ROUNDS, [calls; 2], |side, calls| run(sides[side], row, &mut areas, calls));
     times.iter_mut().for_each(|side| side.sort_by(f64::total_cmp));
     let [before, after] = &times;
     let ratio = fastest(after, 4) / fastest(before, 4);

@@ -14,12 +14,25 @@ pub struct DistanceAnswer {
     ratio: f32,
 }
 
+#[repr(C)]
+pub struct Holder {
+    number: u32,
+    borrower: u32,
+}
+
 /// Reads one area and writes another.
 pub type Writer = unsafe extern "C" fn(*const u8, usize, *mut u8, usize) -> Written;
 /// Reads one area.
 pub type Test = unsafe extern "C" fn(*const u8, usize) -> u32;
 /// Reads two areas.
 pub type Measure = unsafe extern "C" fn(*const u8, usize, *const u8, usize) -> DistanceAnswer;
+
+/// Reads one area, reads and writes another: a code goes out to a borrower.
+pub type Issue = unsafe extern "C" fn(*const u8, usize, u32, *mut u8, usize) -> u32;
+/// Reads one area, reads and writes another: a code comes back.
+pub type Return = unsafe extern "C" fn(*const u8, usize, *mut u8, usize) -> u32;
+/// Reads two areas: who has a code.
+pub type Ask = unsafe extern "C" fn(*const u8, usize, *const u8, usize) -> Holder;
 
 pub fn write(entry: Writer, bytes: &[u8], out: &mut [u8]) -> (u32, usize) {
     // Both areas are as long as said, and a shared and a unique borrow cannot overlap.
@@ -36,4 +49,20 @@ pub fn measure(entry: Measure, a: &[u8], b: &[u8]) -> (u32, u32, u32, f32) {
     // The areas are as long as said.
     let answer = unsafe { entry(a.as_ptr(), a.len(), b.as_ptr(), b.len()) };
     (answer.number, answer.d, answer.n, answer.ratio)
+}
+
+pub fn issue(entry: Issue, text: &[u8], borrower: u32, area: &mut [u8]) -> u32 {
+    // As with write.
+    unsafe { entry(text.as_ptr(), text.len(), borrower, area.as_mut_ptr(), area.len()) }
+}
+
+pub fn take_back(entry: Return, text: &[u8], area: &mut [u8]) -> u32 {
+    // As with write.
+    unsafe { entry(text.as_ptr(), text.len(), area.as_mut_ptr(), area.len()) }
+}
+
+pub fn ask(entry: Ask, text: &[u8], area: &[u8]) -> (u32, u32) {
+    // The areas are as long as said.
+    let answer = unsafe { entry(text.as_ptr(), text.len(), area.as_ptr(), area.len()) };
+    (answer.number, answer.borrower)
 }

@@ -33,7 +33,7 @@ pub fn runs(length: usize) -> Vec<Vec<u8>> {
 }
 
 /// A composite of all five units: 42 bytes, 68 characters.
-fn composite(random: &mut Random) -> Vec<u8> {
+pub fn composite(random: &mut Random) -> Vec<u8> {
     [vec![0x50 | random.below(5) as u8, 7], random.bytes(40)].concat()
 }
 
@@ -41,8 +41,13 @@ pub fn codes() -> Vec<Vec<u8>> {
     variants(composite)
 }
 
+/// A code as it is written.
+pub fn spelt(code: &[u8]) -> Vec<u8> {
+    [b"ISCC:".to_vec(), encoded(code)].concat()
+}
+
 pub fn written() -> Vec<Vec<u8>> {
-    variants(|random| [b"ISCC:".to_vec(), encoded(&composite(random))].concat())
+    variants(|random| spelt(&composite(random)))
 }
 
 fn changed(mut texts: Vec<Vec<u8>>, change: impl Fn(&mut Vec<u8>)) -> Vec<Vec<u8>> {
@@ -101,7 +106,7 @@ pub fn listed() -> Vec<Vec<u8>> {
 
 /// A written text with hyphens behind it up to a length.
 pub fn stretched(length: usize) -> Vec<Vec<u8>> {
-    let mut texts = variants(|random| [b"ISCC:".to_vec(), encoded(&random.unit(0x30, 7))].concat());
+    let mut texts = variants(|random| spelt(&random.unit(0x30, 7)));
     texts.iter_mut().for_each(|text| text.resize(length, b'-'));
     texts
 }

@@ -1,6 +1,6 @@
 //! The measured entries of the proved libraries, with the same signatures as the plain ones.
 
-use crate::entry::{self, DistanceAnswer, Written};
+use crate::entry::{self, DistanceAnswer, Holder, Written};
 
 extern "C" {
     fn iscc_intake(text: *const u8, text_len: usize, out: *mut u8, out_len: usize) -> Written;
@@ -9,6 +9,9 @@ extern "C" {
     fn iscc_join(units: *const u8, units_len: usize, out: *mut u8, out_len: usize) -> Written;
     fn iscc_strict(text: *const u8, text_len: usize) -> u32;
     fn iscc_distance(a: *const u8, a_len: usize, b: *const u8, b_len: usize) -> DistanceAnswer;
+    fn loans_issue(text: *const u8, text_len: usize, borrower: u32, area: *mut u8, area_len: usize) -> u32;
+    fn loans_return(text: *const u8, text_len: usize, area: *mut u8, area_len: usize) -> u32;
+    fn loans_ask(text: *const u8, text_len: usize, area: *const u8, area_len: usize) -> Holder;
     fn probe_base32_read(text: *const u8, text_len: usize, out: *mut u8, out_len: usize) -> Written;
     fn probe_base32_write(bytes: *const u8, bytes_len: usize, out: *mut u8, out_len: usize) -> Written;
 }
@@ -36,4 +39,16 @@ pub fn strict(text: &[u8]) -> u32 {
 
 pub fn distance(a: &[u8], b: &[u8]) -> (u32, u32, u32, f32) {
     entry::measure(iscc_distance, a, b)
+}
+
+pub fn issue(text: &[u8], borrower: u32, area: &mut [u8]) -> u32 {
+    entry::issue(loans_issue, text, borrower, area)
+}
+
+pub fn take_back(text: &[u8], area: &mut [u8]) -> u32 {
+    entry::take_back(loans_return, text, area)
+}
+
+pub fn ask(text: &[u8], area: &[u8]) -> (u32, u32) {
+    entry::ask(loans_ask, text, area)
 }

@@ -9,14 +9,29 @@ mod measure;
 #[allow(dead_code)]
 #[path = "../tests/compare/random.rs"]
 mod random;
+mod registers;
 mod rows;
 mod turns;
 
 use measure::{side_by_side, Figures};
-use rows::{Call, Row};
+use registers::BORROWER;
+use rows::{Call, Loan, Row};
 use turns::over;
 
 type Writer = fn(&[u8], &mut [u8]) -> (u32, usize);
+/// A call on a register: its number, and the borrower where one is told.
+type OnRegister = fn(&[u8], &mut [u8]) -> (u32, u32);
+
+/// The proved and the plain side of a call on a register.
+fn sides(call: Loan) -> [OnRegister; 2] {
+    match call {
+        Loan::Issue => {
+            [|text, area| (library::issue(text, BORROWER, area), 0), |text, area| (plain::issue(text, BORROWER, area), 0)]
+        }
+        Loan::Return => [|text, area| (library::take_back(text, area), 0), |text, area| (plain::take_back(text, area), 0)],
+        Loan::Ask => [|text, area| library::ask(text, area), |text, area| plain::ask(text, area)],
+    }
+}
 
 fn writers(row: &Row, proved: Writer, plain: Writer) -> Figures {
     // One output area for each side, never cleared: each call writes over what the last one wrote.
@@ -36,6 +51,14 @@ fn distance(row: &Row) -> Figures {
     side_by_side(
         |calls| over(&row.inputs, calls, |unit| library::distance(unit, other)),
         |calls| over(&row.inputs, calls, |unit| plain::distance(unit, other)),
+    )
+}
+
+fn on_registers(row: &Row, [proved, plain]: [OnRegister; 2]) -> Figures {
+    let (mut first, mut second) = (row.registers.clone(), row.registers.clone());
+    side_by_side(
+        |calls| registers::over(&row.inputs, &mut first, calls, proved),
+        |calls| registers::over(&row.inputs, &mut second, calls, plain),
     )
 }
 
@@ -60,6 +83,7 @@ fn figures(row: &Row) -> Option<Figures> {
         Call::Join => writers(row, library::join, plain::join),
         Call::Split => return None,
         Call::Distance => distance(row),
+        Call::Loan(call) => on_registers(row, sides(call)),
     })
 }
 
@@ -100,6 +124,7 @@ fn main() {
     print("Codes and texts", &rows::doors(), false);
     print("Refusals", &rows::refusals(), false);
     print("Units", &rows::units(), false);
+    print("The register", &rows::register(), false);
     print("Growth", &rows::growth(), true);
     if let [program, folder] = &words[..] {
         print_lines(program, folder);

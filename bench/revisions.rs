@@ -1,7 +1,7 @@
 //! The entries of both revisions. `bench/before` has named them before_NAME and after_NAME.
 
-use crate::entry::{Measure, Test, Writer};
-use crate::rows::Call;
+use crate::entry::{Ask, Issue, Measure, Return, Test, Writer};
+use crate::rows::{Call, Loan};
 use std::arch::global_asm;
 
 #[derive(Clone, Copy)]
@@ -9,6 +9,9 @@ pub enum Entry {
     Writer(Writer),
     Test(Test),
     Measure(Measure),
+    Issue(Issue),
+    Return(Return),
+    Ask(Ask),
 }
 
 // A table of addresses for each revision. The names are weak: one that a revision lacks is a null address, which is None.
@@ -50,6 +53,9 @@ entries! {
     join: Writer,
     split: Writer,
     distance: Measure,
+    loans_issue: Issue,
+    loans_return: Return,
+    loans_ask: Ask,
 }
 
 extern "C" {
@@ -79,6 +85,9 @@ impl Entries {
             Call::Join => self.join.map(Entry::Writer),
             Call::Split => self.split.map(Entry::Writer),
             Call::Distance => self.distance.map(Entry::Measure),
+            Call::Loan(Loan::Issue) => self.loans_issue.map(Entry::Issue),
+            Call::Loan(Loan::Return) => self.loans_return.map(Entry::Return),
+            Call::Loan(Loan::Ask) => self.loans_ask.map(Entry::Ask),
         }
     }
 }

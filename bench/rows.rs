@@ -1,6 +1,7 @@
 //! The rows of the tables: a call, and what it is measured on.
 
 use crate::inputs;
+use crate::registers::{self, Codes, Register, Wanted, PLACES};
 use std::fmt::{Display, Formatter, Result};
 
 #[derive(Clone, Copy)]
@@ -15,6 +16,15 @@ pub enum Call {
     Split,
     /// To the first of the inputs.
     Distance,
+    Loan(Loan),
+}
+
+/// The calls on a register.
+#[derive(Clone, Copy)]
+pub enum Loan {
+    Issue,
+    Return,
+    Ask,
 }
 
 pub struct Row {
@@ -23,9 +33,13 @@ pub struct Row {
     pub number: u32,
     pub input: String,
     pub inputs: Vec<Vec<u8>>,
+    /// One for each input, where the call is on a register.
+    pub registers: Vec<Register>,
 }
 
 const KIB: usize = 1024;
+/// Codes that are out.
+const OUT: [usize; 5] = [0, 1, 16, 128, PLACES];
 const GROWTH: [usize; 5] = [64, KIB, 16 * KIB, 256 * KIB, KIB * KIB];
 
 impl Call {
@@ -40,6 +54,9 @@ impl Call {
             Call::Join => "join",
             Call::Split => "split",
             Call::Distance => "distance",
+            Call::Loan(Loan::Issue) => "issue",
+            Call::Loan(Loan::Return) => "return",
+            Call::Loan(Loan::Ask) => "ask",
         }
     }
 }
@@ -58,12 +75,12 @@ impl Display for Row {
 }
 
 fn row(call: Call, input: impl Into<String>, inputs: Vec<Vec<u8>>) -> Row {
-    Row { call, number: 0, input: input.into(), inputs }
+    Row { call, number: 0, input: input.into(), inputs, registers: Vec::new() }
 }
 
 /// A row whose inputs are refused; the number stands behind their name, in brackets.
 fn refused(number: u32, call: Call, input: impl Display, inputs: Vec<Vec<u8>>) -> Row {
-    Row { call, number, input: format!("{input} ({number})"), inputs }
+    Row { number, ..row(call, format!("{input} ({number})"), inputs) }
 }
 
 fn size(bytes: usize) -> String {
@@ -136,6 +153,33 @@ pub fn growth() -> Vec<Row> {
     rows
 }
 
+/// With so many codes out another is issued, or one of them returned or asked for; or it is refused, where that cannot be.
+fn loan(call: Loan, codes: Codes, out: usize, input: impl Display) -> Row {
+    let (number, wanted) = match call {
+        Loan::Issue if out == PLACES => (21, Wanted::NotOut),
+        Loan::Issue => (0, Wanted::NotOut),
+        Loan::Return | Loan::Ask if out == 0 => (22, Wanted::NotOut),
+        Loan::Return | Loan::Ask => (0, Wanted::Out),
+    };
+    let (texts, registers) = registers::made(codes, out, wanted);
+    let row = match number {
+        0 => row(Call::Loan(call), input.to_string(), texts),
+        _ => refused(number, Call::Loan(call), input, texts),
+    };
+    Row { registers, ..row }
+}
+
+pub fn register() -> Vec<Row> {
+    let mut rows = Vec::new();
+    for call in [Loan::Issue, Loan::Return, Loan::Ask] {
+        for out in OUT {
+            rows.push(loan(call, Codes::Random, out, format!("{out} out")));
+        }
+        rows.push(loan(call, Codes::Alike, PLACES, format!("{PLACES} out, alike but for four bytes")));
+    }
+    rows
+}
+
 pub fn all() -> Vec<Row> {
-    [doors(), refusals(), units(), growth()].into_iter().flatten().collect()
+    [doors(), refusals(), units(), register(), growth()].into_iter().flatten().collect()
 }

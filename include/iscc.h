@@ -1,21 +1,22 @@
 /*
  * The C interface of the console: both doors, the code of a text and the text of a code, join and
- * split, and the distance between two units.
+ * split, and the distance between two units. The loans register is in loans.h, which includes this
+ * header.
  *
- * Linking. pkg-config knows where this header and its libraries are installed:
+ * Linking. pkg-config knows where both headers and their libraries are installed:
  *
  *   gcc program.c $(pkg-config --cflags --libs iscc)
  *
  * A program can also be linked with the static library alone, libiscc.a, which lies beside the
- * shared one; it is enough for everything in this header.
+ * shared one; it is enough for everything in both headers.
  *
  * In the source repository `./install PREFIX` makes and installs all of this, and
  * `rt staticlib console` makes the static library alone, target/staticlib/libconsole.a. The same
  * source, with the same rt and gcc, gives the same libraries byte for byte, in whatever folder they
  * are built.
  *
- * No memory is taken and nothing is kept between calls, so that every entry may run in several
- * threads at once.
+ * No memory is taken and nothing is kept between calls, so that every entry of this header may run
+ * in several threads at once.
  *
  * Words. An item is one unit or one composite: the bytes of its header and its body. A list is two
  * or more items laid end to end.
@@ -40,15 +41,15 @@ extern "C" {
 #endif
 
 /*
- * The version of this header. The shared library's name has the major version alone, libiscc.so.0,
+ * The version of both headers. The shared library's name has the major version alone, libiscc.so.0,
  * so that a program built for one major version does not start with another. Before 1.0 a new minor
  * version may change answers under the same name: a program that minds compares iscc_version() with
  * ISCC_VERSION.
  */
 #define ISCC_VERSION_MAJOR 0
-#define ISCC_VERSION_MINOR 1
+#define ISCC_VERSION_MINOR 2
 #define ISCC_VERSION_PATCH 0
-#define ISCC_VERSION_TEXT "0.1.0"
+#define ISCC_VERSION_TEXT "0.2.0"
 #define ISCC_VERSION \
     (ISCC_VERSION_MAJOR * 65536 + ISCC_VERSION_MINOR * 256 + ISCC_VERSION_PATCH)
 
@@ -57,7 +58,8 @@ uint32_t iscc_version(void);
 
 /*
  * What a call answers: ISCC_OK or the number of a refusal. No call gives all of them; each names
- * its own below, in the order of its tests. The first test that fails gives the number.
+ * its own, below or in loans.h, in the order of its tests. The first test that fails gives the
+ * number.
  */
 enum iscc_number {
     ISCC_OK = 0,
@@ -77,9 +79,15 @@ enum iscc_number {
     ISCC_SUBTYPES_DIFFER = 14,        /* SEMANTIC and CONTENT of a list differ in subtype */
     ISCC_AREA_TOO_SHORT = 15,         /* the output area is too short */
     ISCC_OTHER_TEXT = 16,             /* strict door: intake would write another text */
-    ISCC_NUMBER_TOO_LARGE = 17,       /* above 4679 in a header; by no call of this header */
+    ISCC_NUMBER_TOO_LARGE = 17,       /* above 4679 in a header; by no call of either header */
     ISCC_NO_DISTANCE = 18,            /* the two items have no distance */
-    ISCC_BYTES_LEFT_OVER = 19         /* bytes left over where exactly one item is wanted */
+    ISCC_BYTES_LEFT_OVER = 19,        /* bytes left over where exactly one item is wanted */
+
+    /* By the calls of loans.h alone: */
+    ISCC_ALREADY_OUT = 20,            /* the code is out already */
+    ISCC_ALL_OUT = 21,                /* 256 other codes are out: no place is free */
+    ISCC_NOT_OUT = 22,                /* a return or a question, and the code is not out */
+    ISCC_NOT_REGISTER = 23            /* the area is not a register */
 };
 
 /*
@@ -112,6 +120,10 @@ ISCC_INLINE const char *iscc_refusal_text(uint32_t number) {
     case ISCC_NUMBER_TOO_LARGE: return "A number above 4679 cannot be written in a header.";
     case ISCC_NO_DISTANCE: return "These two have no distance.";
     case ISCC_BYTES_LEFT_OVER: return "Bytes are left over after the code.";
+    case ISCC_ALREADY_OUT: return "This code is out already.";
+    case ISCC_ALL_OUT: return "No more can go out: 256 other codes are out.";
+    case ISCC_NOT_OUT: return "This code is not out.";
+    case ISCC_NOT_REGISTER: return "The register is damaged, or this is no register.";
     default: return "There is no such number.";
     }
 }

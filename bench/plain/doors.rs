@@ -6,7 +6,7 @@ use crate::join::{compose, read_list};
 
 const SCHEME: &[u8; 5] = b"ISCC:";
 const LONGEST: usize = 73;
-const LONGEST_CODE: usize = 42;
+pub const LONGEST_CODE: usize = 42;
 
 fn is_blank(byte: &u8) -> bool {
     matches!(byte, b' ' | b'\t' | b'\r' | b'\n')
@@ -49,9 +49,9 @@ fn clean(text: &[u8], run: &mut [u8; 80]) -> Result<usize, u32> {
 }
 
 /// A code and how many bytes it has.
-struct Code {
-    bytes: [u8; LONGEST_CODE],
-    length: usize,
+pub struct Code {
+    pub bytes: [u8; LONGEST_CODE],
+    pub length: usize,
 }
 
 impl Code {
@@ -61,7 +61,7 @@ impl Code {
 }
 
 /// The code that a text holds.
-fn code_of(text: &[u8]) -> Result<Code, u32> {
+pub fn code_of(text: &[u8]) -> Result<Code, u32> {
     if text.len() > 1024 {
         return Err(2);
     }

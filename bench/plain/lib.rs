@@ -6,8 +6,10 @@ mod distance;
 mod doors;
 mod items;
 mod join;
+mod register;
 
 pub use base32::{base32_read, base32_write};
 pub use distance::distance;
 pub use doors::{code, intake, strict, text};
 pub use join::join;
+pub use register::{ask, issue, take_back};

@@ -11,7 +11,8 @@ that a program needs beside it:
 
 A text is a str or bytes. A str is taken as UTF-8, so that every str gets the library's own answer:
 a letter outside ASCII is refused with number 4 as any other character outside the alphabet. A code
-is bytes. Where the library refuses, Refused is raised.
+is bytes. Where the library refuses, Refused is raised. The loans register is in loans.py, which
+stands on this file.
 
 The library is made by `./install target/installed` at the top of the repository. It is looked for
 at the first call: in the file that ISCC_LIBRARY names, if it names one; else in target/installed,
@@ -80,6 +81,10 @@ class Refusal(enum.IntEnum):
     NUMBER_TOO_LARGE = 17
     NO_DISTANCE = 18
     BYTES_LEFT_OVER = 19
+    ALREADY_OUT = 20
+    ALL_OUT = 21
+    NOT_OUT = 22
+    NOT_REGISTER = 23
 
 
 class Refused(ValueError):
@@ -204,7 +209,7 @@ def _written(call: Callable[..., _Written], data: bytes, area: int) -> bytes:
 
 
 def version() -> str:
-    """The version of the library, as '0.1.0'."""
+    """The version of the library, as '0.2.0'."""
     number = int(_library().iscc_version())
     return f"{number >> 16}.{number >> 8 & 255}.{number & 255}"
 

@@ -19,6 +19,7 @@ import subprocess
 import sys
 import tempfile
 import threading
+import types
 import unittest
 from collections.abc import Callable, Iterator
 
@@ -438,26 +439,27 @@ class Example(unittest.TestCase):
         self.assertTrue(said.startswith("the ISCC library cannot be loaded"), said)
 
 
-def say_again(test: unittest.TestCase) -> None:
+def say_again(test: unittest.TestCase, here: types.ModuleType) -> None:
     """The one command that runs a failed test again."""
     library = os.environ.get("ISCC_LIBRARY")
     front = f"ISCC_LIBRARY={shlex.quote(library)} " if library else ""
-    name = test.id().removeprefix(f"{__name__}.")
-    print(f"run again: {front}python3 examples/python/test_iscc.py {name}")
+    name = test.id().removeprefix(f"{here.__name__}.")
+    file = pathlib.Path(here.__file__ or "").name
+    print(f"run again: {front}python3 examples/python/{file} {name}")
 
 
-def main(names: list[str]) -> int:
-    here = sys.modules[__name__]
+def main(names: list[str], here: types.ModuleType) -> int:
+    """Runs the tests of a file, all or those that are named."""
     load = unittest.defaultTestLoader
     suite = load.loadTestsFromNames(names, here) if names else load.loadTestsFromModule(here)
     result = unittest.TextTestRunner(stream=sys.stdout).run(suite)
     wrong = [test for test, _ in result.failures + result.errors]
     for test in wrong:
-        say_again(test)
+        say_again(test, here)
     failed = len(wrong)
     print(f"{result.testsRun - failed} passed, {failed} failed")
     return 0 if result.wasSuccessful() and result.testsRun > 0 else 1
 
 
 if __name__ == "__main__":
-    sys.exit(main(sys.argv[1:]))
+    sys.exit(main(sys.argv[1:], sys.modules[__name__]))

@@ -7,14 +7,12 @@
  *
  * usage: console_test [--only BLOCK] */
 #define _POSIX_C_SOURCE 200809L /* for sigaction */
+#include "expect.h"
 #include "iscc.h"
+#include "loans_blocks.h"
 
 #include <inttypes.h>
 #include <signal.h>
-#include <stdbool.h>
-#include <stdio.h>
-#include <stdlib.h>
-#include <string.h>
 
 /* What to put before the program to run it as it is meant to be run. */
 #ifndef BY
@@ -23,37 +21,8 @@
 
 static const char *program;
 static const char *block_name;
-static bool block_ok;
 static int passed;
 static int failed;
-
-static void expect(bool holds, const char *what, const char *of) {
-    if (holds) return;
-    block_ok = false;
-    printf("  %.40s: %s\n", of, what);
-}
-
-/* A number of an answer, by the name of its field. */
-static void expect_same(const char *field, size_t found, size_t due, const char *of) {
-    if (found == due) return;
-    block_ok = false;
-    printf("  %.40s: expected %s=%zu, found %s=%zu\n", of, field, due, field, found);
-}
-
-/* A heap block of just these bytes; null for none, which the calls take. */
-static uint8_t *copy_of(const void *bytes, size_t length) {
-    if (length == 0) return NULL;
-    uint8_t *copy = malloc(length);
-    if (copy == NULL) abort();
-    memcpy(copy, bytes, length);
-    return copy;
-}
-
-static bool all_are(const uint8_t *bytes, size_t length, uint8_t byte) {
-    for (size_t i = 0; i < length; i++)
-        if (bytes[i] != byte) return false;
-    return true;
-}
 
 /* Intake with an area of `area` bytes, which must answer `number` and, on success, write `due` and nothing behind it. */
 static void intake_bytes(const char *text, size_t length, size_t area, uint32_t number, const char *due) {
@@ -313,6 +282,16 @@ static const struct {
 } blocks[] = {
     {"line_case", line_case},   {"one_unit", one_unit},   {"short_texts", short_texts}, {"headers", headers}, {"areas", areas},
     {"long_texts", long_texts}, {"distances", distances}, {"codes", codes},
+    {"loans_one_code", loans_one_code},
+    {"loans_places", loans_places},
+    {"loans_full", loans_full},
+    {"loans_alike", loans_alike},
+    {"loans_texts", loans_texts},
+    {"loans_lengths", loans_lengths},
+    {"loans_damaged", loans_damaged},
+    {"loans_wrong_codes", loans_wrong_codes},
+    {"loans_from_elsewhere", loans_from_elsewhere},
+    {"loans_only_read", loans_only_read},
 };
 
 static int usage(void) {

@@ -1,9 +1,10 @@
 /*
  * What a program sees of an installed library, in C and in C++: prints the version, then each
  * number with its sentence. The exit status is 1 where the header's version is not the library's, a
- * sentence could not be shown to a person, or it is not the one that stands here.
+ * sentence could not be shown to a person, or it is not the one that stands here, or the register
+ * does not answer.
  */
-#include <iscc.h>
+#include <loans.h>
 
 #include <stdio.h>
 #include <string.h>
@@ -32,9 +33,13 @@ static const char *const due[] = {
     "A number above 4679 cannot be written in a header.",
     "These two have no distance.",
     "Bytes are left over after the code.",
+    "This code is out already.",
+    "No more can go out: 256 other codes are out.",
+    "This code is not out.",
+    "The register is damaged, or this is no register.",
     "There is no such number.",
 };
-typedef char one_for_each[sizeof due / sizeof due[0] == ISCC_BYTES_LEFT_OVER + 2 ? 1 : -1];
+typedef char one_for_each[sizeof due / sizeof due[0] == ISCC_NOT_REGISTER + 2 ? 1 : -1];
 
 static void expect(int holds, const char *what, uint32_t number) {
     if (holds) return;
@@ -71,10 +76,20 @@ static void check_words(uint32_t number) {
     printf("%lu %s\n", (unsigned long)number, words);
 }
 
+/* C++ finds these calls only if their header says that they are C. */
+static void check_register(void) {
+    static uint8_t area[LOANS_REGISTER_AREA];
+    const uint8_t *text = (const uint8_t *)"GAAAAAAAAA";
+    expect(loans_issue(text, 10, 5, area, sizeof area) == ISCC_OK, "not issued", 5);
+    expect(loans_ask(text, 10, area, sizeof area).borrower == 5, "another borrower", 5);
+    expect(loans_return(text, 10, area, sizeof area) == ISCC_OK, "not taken back", 5);
+}
+
 int main(void) {
-    const uint32_t unknown = ISCC_BYTES_LEFT_OVER + 1;
+    const uint32_t unknown = ISCC_NOT_REGISTER + 1;
     uint32_t number;
     check_version();
+    check_register();
     for (number = ISCC_OK; number <= unknown; number++) check_words(number);
     expect(strcmp(iscc_refusal_text(0xFFFFFFFFu), iscc_refusal_text(unknown)) == 0,
            "another unknown number has other words", 0xFFFFFFFFu);

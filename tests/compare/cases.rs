@@ -1,7 +1,7 @@
 //! One random request for each call.
 
 use crate::random::Random;
-use crate::{codes, texts};
+use crate::{areas, codes, texts};
 use harness::call::{Call, Request};
 use harness::expected;
 
@@ -26,6 +26,7 @@ pub fn request(random: &mut Random, call: Call) -> Request {
         Call::UnitWrite => (request.header, request.second) = header_and_body(random),
         Call::Join => request.first = if random.percent(2) { codes::long_list(random) } else { codes::list(random) },
         Call::Split => request.first = composite_bytes(random),
+        Call::Issue | Call::TakeBack | Call::Ask => return areas::request(random, call),
     }
     request.area = area(random, &request);
     request
@@ -34,7 +35,7 @@ pub fn request(random: &mut Random, call: Call) -> Request {
 /// An area about as long as what is written, or of a boundary length.
 fn area(random: &mut Random, request: &Request) -> usize {
     match request.call {
-        Call::Strict | Call::Distance | Call::HeaderRead | Call::UnitRead => 0,
+        call if !call.writes() => 0,
         Call::Intake | Call::Text if random.percent(90) => random.pick(&[73, 73, 74, 80, 100, 1024]),
         Call::Intake | Call::Text => random.pick(&[0, 1, 20, 71, 72, 73]),
         Call::Code if random.percent(90) => random.pick(&[42, 42, 43, 50, 73, 1024]),

@@ -1,6 +1,7 @@
 //! Random bytes of units, composites and lists: valid, nearly valid, damaged, and nothing of the kind.
 
 use crate::random::Random;
+use std::collections::HashSet;
 
 /// Each main type's count of subtypes and of length numbers.
 const SINGLE: [(u8, u8, u8); 6] = [(0, 1, 8), (1, 5, 8), (2, 5, 8), (3, 1, 8), (4, 1, 8), (6, 6, 5)];
@@ -41,6 +42,11 @@ pub fn composite(random: &mut Random) -> Vec<u8> {
 /// Units that make a composite, in any order.
 pub fn units_of_composite(random: &mut Random) -> Vec<Vec<u8>> {
     let set = random.below(8);
+    units_of_set(random, set)
+}
+
+/// DATA, INSTANCE and those of a set: 4 is META, 2 SEMANTIC, 1 CONTENT.
+fn units_of_set(random: &mut Random, set: usize) -> Vec<Vec<u8>> {
     let subtype = random.below(5) as u8;
     let mut units = Vec::new();
     for (main_type, present) in [(0, set & 4 != 0), (1, set & 2 != 0), (2, set & 1 != 0), (3, true), (4, true)] {
@@ -134,4 +140,59 @@ pub fn items(random: &mut Random) -> Vec<u8> {
         damage(random, &mut bytes);
     }
     bytes
+}
+
+/// Bytes that intake refuses, each number from 7 to 14 about as often as any other.
+pub fn refused(random: &mut Random) -> Vec<u8> {
+    let mut units = units_of_set(random, 7);
+    match random.below(8) {
+        0 => units[0][0] |= 0xf0,
+        1 => units[0][0] = 0x70,
+        2 => units[4].truncate(2 + random.below(8)),
+        3 => units[0] = with_body(random, 6, 0, 0, 8),
+        4 => {
+            units.truncate(4);
+            units.push(with_body(random, 2, 0, 0, 4));
+        }
+        5 => units[0] = units[1].clone(),
+        6 => {
+            let lost = random.pick(&[0x30, 0x40]);
+            units.retain(|unit| unit[0] != lost);
+        }
+        _ => units.iter_mut().filter(|unit| unit[0] >> 4 == 1).for_each(|unit| unit[0] = 0x10 | (unit[0] + 1) % 5),
+    }
+    units.concat()
+}
+
+/// A code that shares most with another: a bit of its body differs, mostly in the last byte, or its first byte does.
+fn neighbour(random: &mut Random, code: &[u8]) -> Vec<u8> {
+    let mut code = code.to_vec();
+    let last = code.len() - 1;
+    let any = 2 + random.below(last - 1);
+    let at = random.pick(&[last, last, 0, 2, any]);
+    match at {
+        0 if code[0] >> 4 < 5 => code[0] = random.pick(&[0x00, 0x10, 0x14, 0x20, 0x21, 0x30, 0x40]),
+        0 => (),
+        _ => code[at] ^= 1 << random.below(8),
+    }
+    code
+}
+
+/// So many codes, no two alike; many are neighbours.
+pub fn different(random: &mut Random, count: usize) -> Vec<Vec<u8>> {
+    let (mut codes, mut known): (Vec<Vec<u8>>, _) = (Vec::new(), HashSet::new());
+    while codes.len() < count {
+        let code = match random.below(10) {
+            0..=3 if !codes.is_empty() => {
+                let of = random.below(codes.len());
+                neighbour(random, &codes[of])
+            }
+            4..=6 => composite(random),
+            _ => unit(random),
+        };
+        if known.insert(code.clone()) {
+            codes.push(code);
+        }
+    }
+    codes
 }

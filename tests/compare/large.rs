@@ -1,9 +1,9 @@
 //! Inputs of about a mebibyte: no call may mind how much it is lent.
 
-use crate::codes;
 use crate::random::Random;
+use crate::{codes, texts};
 use harness::call::{Call, Request};
-use reference::base32;
+use reference::{base32, register};
 
 const MEBIBYTE: usize = 1 << 20;
 /// The longest area of these requests, and of any other case.
@@ -16,7 +16,7 @@ fn list(random: &mut Random, last: Vec<u8>) -> Vec<u8> {
 }
 
 /// How many requests there are.
-pub const COUNT: u64 = 21;
+pub const COUNT: u64 = 27;
 
 pub fn requests(random: &mut Random) -> Vec<Request> {
     let mut requests = Vec::new();
@@ -40,5 +40,16 @@ pub fn requests(random: &mut Random) -> Vec<Request> {
             add(call, long.clone());
         }
     }
+    let code = codes::unit(random);
+    let typed = texts::of_code(random, &code);
+    for call in Call::REGISTER {
+        requests.push(on_register(call, vec![b'-'; MEBIBYTE], register::LENGTH));
+        requests.push(on_register(call, typed.clone(), MEBIBYTE));
+    }
     requests
+}
+
+/// A call on an area of zeros.
+fn on_register(call: Call, text: Vec<u8>, length: usize) -> Request {
+    Request { first: text, second: vec![0; length], ..Request::new(call) }
 }

@@ -1,10 +1,13 @@
 //! Compares the linked libraries with the reference on random cases.
 
+mod areas;
 mod cases;
 mod codes;
 mod large;
 mod lines;
 mod random;
+mod register;
+mod seen;
 mod texts;
 
 use harness::call::{Call, Request};
@@ -15,20 +18,21 @@ use harness::memcheck;
 use harness::tally::Tally;
 use harness::words::Words;
 use random::Random;
+use seen::Seen;
 use std::ops::Range;
 use std::process::ExitCode;
 
 const USAGE: &str = "usage: compare [--seed N] [--cases N] [--lines PROGRAM] [--only CALL CASE] [--memcheck]
   --seed N          the seed of the cases (24138)
-  --cases N         how many cases in all (1000000)
+  --cases N         how many cases in all (1000000); those on a register come on top
   --lines PROGRAM   the line program; without it no lines are compared
-  --only CALL CASE  one case of one call, or of large or lines, counted from 0
+  --only CALL CASE  one case of one call, or of large, register or lines, counted from 0
   --memcheck        areas are heap blocks of just their length, for a run by tests/memcheck";
 
 /// A call with so many differences is left there.
 const MOST_DIFFERENCES: usize = 3;
 
-/// The part of all cases that goes to a call, in hundredths.
+/// The part of all cases that goes to a call, in hundredths; calls on a register come on top.
 fn share(call: Call) -> usize {
     match call {
         Call::Intake => 24,
@@ -40,6 +44,7 @@ fn share(call: Call) -> usize {
         Call::Distance | Call::HeaderRead => 5,
         Call::HeaderWrite | Call::Base32Read => 4,
         Call::Base32Write => 2,
+        Call::Issue | Call::TakeBack | Call::Ask => 2,
     }
 }
 
@@ -47,8 +52,7 @@ fn share(call: Call) -> usize {
 struct Outcome {
     cases: usize,
     differences: Vec<String>,
-    /// How often each number was the right answer.
-    seen: [usize; 20],
+    seen: Seen,
 }
 
 struct Options {
@@ -97,9 +101,10 @@ fn fault(options: &Options) -> Option<String> {
         "lines" if case >= lines::INPUTS => Some(format!("there are {} inputs of lines, counted from 0", lines::INPUTS)),
         "large" if case >= large::COUNT => Some(format!("there are {} large inputs, counted from 0", large::COUNT)),
         "lines" | "large" => None,
+        "register" if case < u64::MAX => None,
         _ if case == u64::MAX => Some("--only wants a smaller number".to_string()),
         _ if Call::ALL.iter().any(|call| call.name() == name) => None,
-        _ => Some(format!("no call is called '{name}'; calls: {calls}, and large, lines")),
+        _ => Some(format!("no call is called '{name}'; calls: {calls}, and large, register, lines")),
     }
 }
 
@@ -116,6 +121,9 @@ fn main() -> ExitCode {
     }
     if let Some(range) = range(&options, "large", large::COUNT) {
         large(&mut tally, &mut library, options.seed, range);
+    }
+    if let Some(range) = range(&options, "register", register::count(options.cases, options.memcheck)) {
+        register::check(&mut tally, &mut library, options.seed, range);
     }
     match (range(&options, "lines", lines::INPUTS), &options.lines) {
         (Some(range), Some(program)) => lines::check(&mut tally, program, options.seed, range, &options.again),
@@ -134,12 +142,12 @@ fn range(options: &Options, name: &str, count: u64) -> Option<Range<u64>> {
 }
 
 fn compare(library: &mut Library, seed: u64, call: Call, index: usize, range: Range<u64>) -> Outcome {
-    let mut outcome = Outcome { cases: 0, differences: Vec::new(), seen: [0; 20] };
+    let mut outcome = Outcome { cases: 0, differences: Vec::new(), seen: Seen::default() };
     for number in range {
         let mut random = Random::of_case(seed, index as u64, number);
         let request = cases::request(&mut random, call);
         match one(library, &Case { of: call.name(), number }, &request, &setting(&mut random)) {
-            Ok(answer) => outcome.seen[answer as usize] += 1,
+            Ok(answer) => outcome.seen.count(answer),
             Err(difference) => outcome.differences.push(difference),
         }
         outcome.cases += 1;
@@ -189,12 +197,9 @@ fn report(tally: &mut Tally, call: Call, outcome: &Outcome) {
     if !outcome.differences.is_empty() {
         return tally.check(&name, false, format!("{} cases run{}", outcome.cases, outcome.differences.concat()));
     }
-    // Cases that never bring out a refusal would test nothing of it.
-    let few: Vec<u32> =
-        call.numbers().iter().copied().filter(|&n| outcome.seen[n as usize] * 100_000 < outcome.cases).collect();
+    let few = outcome.seen.few(call.numbers());
     if !few.is_empty() && outcome.cases > 1 {
         return tally.check(&name, false, format!("the cases hardly reach {few:?}"));
     }
-    let seen: Vec<String> = call.numbers().iter().map(|&n| format!("{n}:{}", outcome.seen[n as usize])).collect();
-    tally.check(&name, true, format!("{} cases, no difference; by number {}", outcome.cases, seen.join(" ")));
+    tally.check(&name, true, format!("{} cases, no difference; by number {}", outcome.cases, outcome.seen.shown(call)));
 }

@@ -2,7 +2,7 @@
 
 use crate::codes;
 use crate::random::Random;
-use reference::{base32, doors};
+use reference::{base32, composite, doors};
 
 const BLANKS: &[u8] = b" \t\r\n";
 /// Bytes that a careless door might drop, fold or read: other blanks, digits, signs, bytes past ASCII.
@@ -125,4 +125,57 @@ pub fn base32_run(random: &mut Random, bytes: &[u8]) -> Vec<u8> {
         damage(random, &mut text);
     }
     text
+}
+
+/// One of the many texts of a code; the units of a composite may stand one by one, in any order.
+pub fn of_code(random: &mut Random, code: &[u8]) -> Vec<u8> {
+    let mut units: Vec<Vec<u8>> = match composite::split(code, usize::MAX) {
+        Ok(units) => units.chunks(10).map(<[u8]>::to_vec).collect(),
+        Err(_) => Vec::new(),
+    };
+    random.shuffle(&mut units);
+    let bytes = if units.is_empty() || random.percent(50) { code.to_vec() } else { units.concat() };
+    respell(random, &base32::encode(&bytes))
+}
+
+/// A text that intake refuses, each number about as often as any other.
+fn refused(random: &mut Random) -> Vec<u8> {
+    let mut run = base32::encode(&codes::unit(random));
+    match random.below(14) {
+        0 => run.clear(),
+        1 => run.resize(1025 + random.below(100), b'-'),
+        2 => run.resize(81 + random.below(3), b'A'),
+        3 => {
+            let at = random.below(run.len());
+            run[at] = random.pick(b"0189=@");
+        }
+        4 => run.resize(random.pick(&[1, 3, 6, 9, 17, 65, 73]), b'A'),
+        5 => {
+            let length = 5 * random.below(9) + 1 + random.below(4);
+            run = base32::encode(&random.bytes(length));
+            // Its spare bits are zero, so the next letter or digit has the lowest of them set.
+            run.last_mut().into_iter().for_each(|character| *character += 1);
+        }
+        _ => run = base32::encode(&codes::refused(random)),
+    }
+    respell(random, &run)
+}
+
+/// The texts of the calls on a register: mostly this code's.
+pub fn for_loan(random: &mut Random, code: &[u8]) -> Vec<u8> {
+    match random.below(20) {
+        0..=4 => refused(random),
+        5 => text(random),
+        6 => {
+            let mut text = of_code(random, code);
+            stretch(random, &mut text);
+            text
+        }
+        7 => {
+            let mut text = of_code(random, code);
+            damage(random, &mut text);
+            text
+        }
+        _ => of_code(random, code),
+    }
 }

@@ -14,7 +14,8 @@ from .index import TOP, Index, read
 GAP = r"[\s/#*-]+"
 UNFINISHED = re.compile(r"@@|\b(?:TODO|FIXME|XXX)\b")
 OTHER_PAPER = re.compile(rf"\b[Dd]ocuments?{GAP}0\d+\b|\b(?:as{GAP}in|see|of|by|from){GAP}0\d\d\b|\b0[12]'s\b")
-WORKPLACE = re.compile(rf"\b(?:sessions?|helpers?|agents?|issues?{GAP}\d+)\b", re.I)
+# A step in tests/vectors/register.txt has such a word for its name, and is quoted.
+WORKPLACE = re.compile(rf"\b(?!(?<=\")session\")(?:sessions?|helpers?|agents?|issues?{GAP}\d+)\b", re.I)
 MACHINE = re.compile(r"(?<![\w.])/(?:usr/local|var/tmp|work|opt|tmp|home|root)\b")
 # A script may name the folders that every system has.
 OWN_MACHINE = re.compile(r"(?<![\w.])/(?:work|opt|home|root)\b")

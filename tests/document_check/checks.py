@@ -117,20 +117,35 @@ def check_document(document: Document, index: Index, tally: Tally) -> None:
 def names_under(folder: str, index: Index) -> set[str]:
     """Names that stand in a file of this folder, as name, as File.name, and with their fields as Record.field."""
     inside = [(Path(path).stem, name) for path, name in index.in_files if path.startswith(folder)]
-    names = {name for _, name in inside}
-    fields = {known for known in index.fields if known.split(".")[0] in names}
-    return names | fields | {f"{stem}.{name}" for stem, name in inside}
+    return {name for _, name in inside} | {f"{stem}.{name}" for stem, name in inside}
+
+
+# The crate that a page speaks of if it is not iscc, as docs/TRACE.md says.
+HOMES = {"docs/trace/register.md": "loans"}
 
 
 def check_homes(document: Document, index: Index, tally: Tally) -> None:
     """docs/TRACE.md says in which folder laws and definitions stand if no file is named."""
     laws = [*without_file(document, "Proof"), *column(document, "law")]
     definitions = list(without_file(document, "Definition"))
-    for folder, said in (("crates/iscc/proofs/", laws), ("crates/iscc/specs/", definitions)):
+    home = f"crates/{HOMES.get(document.path, 'iscc')}"
+    for folder, said in ((f"{home}/proofs/", laws), (f"{home}/specs/", definitions)):
         known = index.crates | names_under(folder, index)
         for number, name in said:
             message = f"`{name}` does not stand in {folder}, and no file is named"
             tally.check(name in known, f"{document.path}:{number}: {message}")
+
+
+# The records that the trace owes each field of: their file, their names, and how many fields they have at least.
+PROMISES = {
+    "crates/iscc/specs/Demands.antt": (r"Demand[123]\.", 41),
+    "crates/loans/specs/Promises.antt": (r"\w+\.", 20),
+    "crates/loans/specs/Good.antt": (r"Sound\.", 4),
+}
+
+
+def fields_in(path: str, form: str, index: Index) -> set[str]:
+    return {name for file, name in index.in_files if file == path and "." in name and re.match(form, name)}
 
 
 def check_trace(opened: list[Document], index: Index, tally: Tally) -> None:
@@ -139,9 +154,12 @@ def check_trace(opened: list[Document], index: Index, tally: Tally) -> None:
     named = {n for d in pages for _, n in quoted(d)}
     laws = [law for d in pages for law in (*without_file(d, "Proof"), *column(d, "law"))]
     tally.check(len(laws) > 40, "docs/trace: its laws were not found")
-    demands = {f for f in index.fields if re.match(r"Demand[123]\.", f)}
-    tally.check(len(demands) > 40, "the demands' fields were not found")
-    for name in sorted(demands | index.edits):
+    owed = set(index.edits)
+    for path, (form, least) in PROMISES.items():
+        fields = fields_in(path, form, index)
+        tally.check(len(fields) >= least, f"{path}: its {least} fields or more were not found")
+        owed |= fields
+    for name in sorted(owed):
         tally.check(name in named, f"docs/trace: nothing names `{name}`")
 
 

@@ -20,6 +20,8 @@ BUILT = {
     "target/console": "examples/c/console.c",
 }
 
+HEADERS = ("include/iscc.h", "include/loans.h")
+
 
 @dataclass
 class Index:
@@ -84,9 +86,9 @@ def index_antt(path: str, index: Index) -> None:
         if kind != "record":
             index.names.update(names)
         if kind in {"record", "data"}:
-            index.fields.update(f"{block}.{name}" for name in names)
-        else:
-            index.in_files.update((path, name) for name in names)
+            names = [f"{block}.{name}" for name in names]
+            index.fields.update(names)
+        index.in_files.update((path, name) for name in names)
 
 
 def index_library(text: str, index: Index) -> None:
@@ -178,16 +180,17 @@ def index_python_item(owner: str, node: ast.stmt, index: Index) -> None:
 def index_c(text: str, index: Index) -> None:
     code = re.sub(r"/\*.*?\*/", " ", text, flags=re.S)
     code = re.sub(r'"[^"]*"', " ", code)
-    index.names.update(re.findall(r"\b(?:iscc|ISCC)_\w+", code))
+    index.names.update(re.findall(r"\b(?:iscc|ISCC|loans|LOANS)_\w+", code))
     index.names.update(re.findall(r"\b([a-z_]\w*)(?=[;,)])", code))
-    for name, taken in re.findall(r"\b(iscc_\w+)\(([^)]*)\)", code):
+    for name, taken in re.findall(r"\b((?:iscc|loans)_\w+)\(([^)]*)\)", code):
         index.parameters[name] = [p.split()[-1].strip("*") for p in taken.split(",") if p.strip() not in {"", "void"}]
 
 
 def index_tests(index: Index) -> None:
-    """Calls, tables with their columns, parts, and functions of the shell files."""
+    """Calls, tables and sequences with their columns, parts, and functions of the shell files."""
     index.calls.update(re.findall(r'Call::\w+ => "(\w+)"', read("tests/harness/call.rs")))
     index.names.update(index.calls)
+    index.names.update(re.findall(r'"(\w+)"', read("tests/harness/sequence.rs")))
     for path in sorted(index.paths):
         if fnmatch.fnmatch(path, "tests/vectors/*.tsv"):
             index.names.add(Path(path).stem)
@@ -217,7 +220,9 @@ def make_index() -> Index:
             index_python(Path(path).stem, read(path), index)
         if path != "tests/documents" and program_of(path, index) and (TOP / path).is_file():
             index.options.update(re.findall(r"(?<![\w-])--[a-z][a-z-]*", read(path)))
-    index_c(read("include/iscc.h"), index)
+    for path in HEADERS:
+        if path in index.paths:
+            index_c(read(path), index)
     index_tests(index)
     for path in index.rattle:
         index.names.add(path.split("::")[-1])
@@ -226,6 +231,6 @@ def make_index() -> Index:
     for taken in index.parameters.values():
         index.names.update(taken)
     records = {owned.split(".")[0] for owned in index.fields}
-    stems = {(Path(path).stem, name) for path, name in index.in_files}
+    stems = {(Path(path).stem, name) for path, name in index.in_files if "." not in name}
     index.fields.update(f"{stem}.{name}" for stem, name in stems if stem not in records)
     return index

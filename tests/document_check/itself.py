@@ -2,7 +2,7 @@
 from __future__ import annotations
 
 from .alone import IN_DOCUMENTS, IN_SOURCES, findings, passages
-from .checks import Tally, names_under, refusal_rows, too_wide
+from .checks import Tally, fields_in, names_under, refusal_rows, too_wide
 from .index import Index
 from .names import resolves
 from .pages import Document, anchors, column, commands, link_leads, links, other_links, placed, split_code, without_file
@@ -26,11 +26,11 @@ UNKNOWN = [
 # In any document, and nowhere in it.
 NOT_SAID = [
     "@@", "TODO: more", "a FIXME", "as in 003", "Documents 004 and 006", "as\nin 003", "under /usr/local", "/opt/x",
-    "/var/tmp", "(/work)", "a session", "Helpers", "issue 14", "Issue #14", "an agent",
+    "/var/tmp", "(/work)", "a session", '"sessions"', '"a session"', "Helpers", "issue 14", "Issue #14", "an agent",
 ]
 SAID = [
     "pending issues", "the issues log", "issue(label, out)", "a document of 100 lines", "of 1,004 bytes", "80 00 01",
-    "home/root", "tests/work",
+    "home/root", "tests/work", '"session"',
 ]
 NO_LINKS = ["[a][b]", "[b]: page.md", '[a](page.md "title")', "[a](<page.md>)", "<a href=page.md>", "[a][]"]
 COMMANDS = [
@@ -99,6 +99,12 @@ def check_lists(index: Index, tally: Tally) -> None:
     tally.check(list(column(item, "law")) == [(8, "g")], "tests/documents: the laws of a table")
     laws = names_under("crates/iscc/proofs/", index)
     tally.check({"decode-encode", "Table.entry"} <= laws and "any-cut" not in laws, "tests/documents: where a law stands")
+    # Three records are called Sound, each in its own file.
+    promised = names_under("crates/loans/specs/", index)
+    apart = {"Sound.again", "LoansRegister.kept"} <= promised and not {"Sound.count", "Demand1.countOver"} & promised
+    tally.check(apart, "tests/documents: where a definition stands")
+    fields = fields_in("crates/loans/specs/Good.antt", r"Sound\.", index)
+    tally.check(fields == {f"Sound.{name}" for name in ("valid", "back", "good", "again")}, "tests/documents: fields of a file")
     comment = '-- "two\n-- words", then\ncode "no"\n-- "and more"'
     tally.check(list(passages(comment)) == [(1, "two words"), (4, "and more")], "tests/documents: what is quoted")
     tally.check(refusal_rows(page("| 1 | a |\n| 12 | b |\n| no | c |")) == [1, 12], "tests/documents: rows of refusals")

@@ -6,7 +6,7 @@ import re
 from collections.abc import Iterator
 from dataclasses import dataclass
 
-from .index import Index, program_of, read
+from .index import HEADERS, Index, program_of, read
 
 # What a line of a code block starts with if it is a command of the repository.
 OWN_COMMAND = re.compile(r"\./\w|(?:tests|bench|\.ci)/\w")
@@ -65,11 +65,11 @@ def open_document(path: str) -> Document:
 
 # Notes of past landings stay as they landed: they speak of their own time, and names may be gone since. A landing adds the
 # note before its own.
-PAST = {"docs/landings/ground.md"}
+PAST = {"docs/landings/ground.md", "docs/landings/friendly.md"}
 
 
 def documents(index: Index) -> list[str]:
-    found = [p for p in ("README.md", "CONTRIBUTING.md", "include/iscc.h") if p in index.paths]
+    found = [p for p in ("README.md", "CONTRIBUTING.md", *HEADERS) if p in index.paths]
     return found + sorted(p for p in index.paths - PAST if re.match(r"(docs|tests)/.*\.md$", p))
 
 

@@ -1,6 +1,6 @@
 //! A public call with its arguments, and what it answers.
 
-use crate::hex;
+use crate::{area, hex};
 use std::fmt;
 
 #[derive(Clone, Copy, Debug, PartialEq, Eq)]
@@ -18,10 +18,13 @@ pub enum Call {
     UnitWrite,
     Join,
     Split,
+    Issue,
+    TakeBack,
+    Ask,
 }
 
 impl Call {
-    pub const ALL: [Call; 13] = [
+    pub const ALL: [Call; 16] = [
         Call::Intake,
         Call::Strict,
         Call::Code,
@@ -35,7 +38,13 @@ impl Call {
         Call::UnitWrite,
         Call::Join,
         Call::Split,
+        Call::Issue,
+        Call::TakeBack,
+        Call::Ask,
     ];
+
+    /// The calls on the loans register.
+    pub const REGISTER: [Call; 3] = [Call::Issue, Call::TakeBack, Call::Ask];
 
     pub fn name(self) -> &'static str {
         match self {
@@ -52,6 +61,9 @@ impl Call {
             Call::UnitWrite => "unit_write",
             Call::Join => "join",
             Call::Split => "split",
+            Call::Issue => "issue",
+            Call::TakeBack => "return",
+            Call::Ask => "ask",
         }
     }
 
@@ -64,12 +76,22 @@ impl Call {
             Call::HeaderWrite => (None, None),
             Call::UnitWrite => (None, Some("body")),
             Call::Base32Write | Call::HeaderRead | Call::UnitRead | Call::Join | Call::Split => (Some("bytes"), None),
+            Call::Issue | Call::TakeBack | Call::Ask => (Some("text"), Some("area")),
         }
     }
 
     /// Whether the call writes to an output area.
     pub fn writes(self) -> bool {
-        !matches!(self, Call::Strict | Call::Distance | Call::HeaderRead | Call::UnitRead)
+        !matches!(self, Call::Strict | Call::Distance | Call::HeaderRead | Call::UnitRead | Call::Ask) && !self.changes()
+    }
+
+    /// Whether the call changes an area that it also reads: the register.
+    pub fn changes(self) -> bool {
+        matches!(self, Call::Issue | Call::TakeBack)
+    }
+
+    pub fn of_register(self) -> bool {
+        Call::REGISTER.contains(&self)
     }
 
     /// Every number that the specification lets the call answer, success first.
@@ -88,6 +110,8 @@ impl Call {
             Call::UnitWrite => &[0, 8, 9, 15],
             Call::Join => &[0, 7, 8, 9, 10, 11, 12, 13, 14, 15],
             Call::Split => &[0, 7, 8, 9, 15, 19],
+            Call::Issue => &[0, 1, 2, 3, 4, 5, 6, 7, 8, 9, 10, 11, 12, 13, 14, 20, 21, 23],
+            Call::TakeBack | Call::Ask => &[0, 1, 2, 3, 4, 5, 6, 7, 8, 9, 10, 11, 12, 13, 14, 22, 23],
         }
     }
 }
@@ -98,17 +122,28 @@ pub struct Request {
     pub call: Call,
     /// The text or the bytes to read.
     pub first: Vec<u8>,
-    /// The second unit of a distance, or the body area of the unit writer.
+    /// The second unit of a distance, the body area of the unit writer, or the register before the call.
     pub second: Vec<u8>,
     /// Main type, subtype, version and length number of a writer.
     pub header: [u32; 4],
+    /// To whom a code is issued.
+    pub borrower: u32,
     /// The length of the output area.
     pub area: usize,
 }
 
 impl Request {
     pub fn new(call: Call) -> Request {
-        Request { call, first: Vec::new(), second: Vec::new(), header: [0; 4], area: 0 }
+        Request { call, first: Vec::new(), second: Vec::new(), header: [0; 4], borrower: 0, area: 0 }
+    }
+
+    /// The second area where the call only reads it.
+    pub fn only_read(&self) -> &[u8] {
+        if self.call.changes() {
+            &[]
+        } else {
+            &self.second
+        }
     }
 }
 
@@ -123,10 +158,15 @@ impl fmt::Display for Request {
             let [main_type, subtype, version, length] = self.header;
             write!(f, " main_type={main_type} subtype={subtype} version={version} length={length}")?;
         }
+        if self.call == Call::Issue {
+            write!(f, " borrower={}", self.borrower)?;
+        }
         let (first, second) = self.call.reads();
         for (name, bytes) in [(first, &self.first), (second, &self.second)] {
-            if let Some(name) = name {
-                write!(f, " {name}={}", hex::shown(bytes))?;
+            match name {
+                Some("area") => write!(f, " area={}", area::shown(bytes))?,
+                Some(name) => write!(f, " {name}={}", hex::shown(bytes))?,
+                None => (),
             }
         }
         Ok(())
@@ -136,7 +176,8 @@ impl fmt::Display for Request {
 /// Values by their names, in their order.
 pub type Fields = Vec<(&'static str, String)>;
 
-/// The number, the other numbers of the answer in the order of their C struct (a float by its bits), and the written bytes.
+/// The number, the other numbers of the answer in the order of their C struct (a float by its bits), and the written bytes:
+/// of a register all its bytes, changed or not.
 #[derive(Clone, Debug, Default, PartialEq, Eq)]
 pub struct Response {
     pub number: u32,
@@ -156,7 +197,8 @@ impl Response {
     /// The call's answer by name, as the vectors have it; the number comes first.
     pub fn fields(&self, call: Call) -> Fields {
         let names: &[&str] = match call {
-            Call::Strict => &[],
+            Call::Strict | Call::Issue | Call::TakeBack => &[],
+            Call::Ask => &["borrower"],
             Call::Distance => &["d", "n", "ratio"],
             Call::HeaderRead | Call::UnitRead => &["main_type", "subtype", "version", "length", "used"],
             _ => &["length"],
@@ -167,6 +209,9 @@ impl Response {
         }
         if call.writes() {
             fields.push(("written", hex::shown(&self.written)));
+        }
+        if call.changes() {
+            fields.push(("area", area::hash(&self.written)));
         }
         fields
     }

@@ -2,7 +2,7 @@
 
 use crate::call::{Call, Request, Response};
 use reference::header::Header;
-use reference::{base32, composite, distance, doors, header, unit, Answer};
+use reference::{base32, composite, distance, doors, header, register, unit, Answer};
 
 fn written(answer: Answer<Vec<u8>>) -> Response {
     answer.map_or_else(Response::refused, Response::written)
@@ -28,8 +28,21 @@ fn measured(answer: Answer<distance::Distance>) -> Response {
     }
 }
 
+/// The register as the call leaves it: on a refusal as it was.
+fn changed(answer: Answer<Vec<u8>>, before: &[u8]) -> Response {
+    match answer {
+        Err(number) => Response { number, written: before.to_vec(), ..Response::default() },
+        Ok(area) => Response { written: area, ..Response::default() },
+    }
+}
+
+fn held(answer: Answer<u32>) -> Response {
+    let told = |borrower| Response { values: [u64::from(borrower), 0, 0, 0, 0], ..Response::default() };
+    answer.map_or_else(Response::refused, told)
+}
+
 pub fn answer(request: &Request) -> Response {
-    let Request { call, first, second, header, area } = request;
+    let Request { call, first, second, header, borrower, area } = request;
     match call {
         Call::Intake => written(doors::intake(first, *area)),
         Call::Strict => written(doors::strict(first).map(|()| Vec::new())),
@@ -44,5 +57,8 @@ pub fn answer(request: &Request) -> Response {
         Call::UnitWrite => written(unit::write(*header, second, *area)),
         Call::Join => written(composite::join(first, *area)),
         Call::Split => written(composite::split(first, *area)),
+        Call::Issue => changed(register::issue(first, *borrower, second), second),
+        Call::TakeBack => changed(register::take_back(first, second), second),
+        Call::Ask => held(register::ask(first, second)),
     }
 }

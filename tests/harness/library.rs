@@ -1,6 +1,7 @@
 //! The C entries of the linked libraries, called on areas of just their length; every byte that a call must keep is
 //! looked at.
 
+use crate::area;
 use crate::call::{Call, Fields, Request, Response};
 use crate::fence::{Fence, Side};
 use crate::memcheck;
@@ -33,6 +34,12 @@ struct HeaderAnswer {
     used: usize,
 }
 
+#[repr(C)]
+struct Holder {
+    number: u32,
+    borrower: u32,
+}
+
 type Writer = unsafe extern "C" fn(*const u8, usize, *mut u8, usize) -> Written;
 type Reader = unsafe extern "C" fn(*const u8, usize) -> HeaderAnswer;
 
@@ -44,6 +51,9 @@ extern "C" {
     fn iscc_join(units: *const u8, units_len: usize, out: *mut u8, out_len: usize) -> Written;
     fn iscc_split(code: *const u8, code_len: usize, out: *mut u8, out_len: usize) -> Written;
     fn iscc_distance(a: *const u8, a_len: usize, b: *const u8, b_len: usize) -> DistanceAnswer;
+    fn loans_issue(text: *const u8, text_len: usize, borrower: u32, area: *mut u8, area_len: usize) -> u32;
+    fn loans_return(text: *const u8, text_len: usize, area: *mut u8, area_len: usize) -> u32;
+    fn loans_ask(text: *const u8, text_len: usize, area: *const u8, area_len: usize) -> Holder;
     fn probe_base32_read(text: *const u8, text_len: usize, out: *mut u8, out_len: usize) -> Written;
     fn probe_base32_write(bytes: *const u8, bytes_len: usize, out: *mut u8, out_len: usize) -> Written;
     fn probe_header_read(bytes: *const u8, bytes_len: usize) -> HeaderAnswer;
@@ -165,7 +175,8 @@ impl Library {
             return None;
         }
         let found = answer.response.fields(request.call);
-        Some(self.difference(case, request, (due.fields(request.call), found), answer.fault))
+        let places = || area::difference(&due.written, &answer.response.written).filter(|_| request.call.changes());
+        Some(self.difference(case, request, (due.fields(request.call), found), answer.fault.or_else(places)))
     }
 
     /// What the call writes, where it is not refused.
@@ -187,7 +198,10 @@ impl Library {
     /// Makes the call.
     pub fn answer(&mut self, case: &Case, request: &Request, setting: &Setting) -> Answer {
         let Setting { side, null, filling } = setting;
-        let before: Vec<u8> = filling.iter().copied().cycle().take(request.area).collect();
+        let before: Vec<u8> = match request.call.changes() {
+            true => request.second.clone(),
+            false => filling.iter().copied().cycle().take(request.area).collect(),
+        };
         let lend = |room: &mut Room, bytes: &[u8]| {
             let pointer = room.lay(bytes, *side);
             if *null && bytes.is_empty() {
@@ -197,10 +211,12 @@ impl Library {
             }
         };
         let first = lend(&mut self.first, &request.first);
-        let second = lend(&mut self.second, &request.second);
+        let second = lend(&mut self.second, request.only_read());
         let out = lend(&mut self.out, &before);
         let errors = memcheck::errors();
-        memcheck::make_undefined(self.out.area());
+        if !request.call.changes() {
+            memcheck::make_undefined(self.out.area());
+        }
         let mut under_way = UnderWay { request, case, again: &self.again };
         UNDER_WAY.store(std::ptr::from_mut(&mut under_way).cast(), Ordering::Relaxed);
         // The three areas are as long as said and do not overlap.
@@ -213,7 +229,11 @@ impl Library {
 
     /// Takes the written bytes over into the response and sees that all others are as before.
     fn look(&mut self, request: &Request, before: &[u8], response: &mut Response) -> Option<String> {
-        let length = if request.call.writes() && response.number == 0 { response.values[0] as usize } else { 0 };
+        let length = match request.call {
+            call if call.changes() => before.len(),
+            call if call.writes() && response.number == 0 => response.values[0] as usize,
+            _ => 0,
+        };
         if length > before.len() {
             return Some("the length is beyond the area".to_string());
         }
@@ -224,7 +244,7 @@ impl Library {
         let changed = (length..before.len()).find(|&at| after[at] != before[at]);
         if let Some(at) = changed {
             Some(format!("the byte at offset {at} of the output area was changed"))
-        } else if self.first.area() != request.first || self.second.area() != request.second {
+        } else if self.first.area() != request.first || self.second.area() != request.only_read() {
             Some("an area lent for reading was changed".to_string())
         } else if !(self.first.kept() && self.second.kept() && self.out.kept()) {
             Some("a byte beside an area was changed".to_string())
@@ -254,6 +274,9 @@ unsafe fn enter(request: &Request, first: *const u8, second: *const u8, out: *mu
         Call::UnitWrite => written(probe_unit_write(main_type, subtype, version, length, second, second_len, out, area)),
         Call::Join => write(iscc_join),
         Call::Split => write(iscc_split),
+        Call::Issue => Response::refused(loans_issue(first, first_len, request.borrower, out, second_len)),
+        Call::TakeBack => Response::refused(loans_return(first, first_len, out, second_len)),
+        Call::Ask => held(loans_ask(first, first_len, second, second_len)),
     }
 }
 
@@ -266,6 +289,10 @@ fn header(answer: HeaderAnswer) -> Response {
         [answer.main_type, answer.subtype, answer.version, answer.length].map(u64::from);
     let values = [main_type, subtype, version, length, answer.used as u64];
     Response { number: answer.number, values, written: Vec::new() }
+}
+
+fn held(answer: Holder) -> Response {
+    Response { number: answer.number, values: [u64::from(answer.borrower), 0, 0, 0, 0], written: Vec::new() }
 }
 
 fn measured(answer: DistanceAnswer) -> Response {

@@ -4,9 +4,10 @@ use crate::call::{Call, Fields, Request, Response};
 use crate::hex;
 use std::str::FromStr;
 
-/// The code of a text and the text of a code have no table of their own: they are held against those of other calls.
+/// The code of a text and the text of a code have no table of their own: they are held against those of other calls. The
+/// calls on the register stand in sequences.
 pub fn exists(call: Call) -> bool {
-    !matches!(call, Call::Code | Call::Text)
+    !matches!(call, Call::Code | Call::Text) && !call.of_register()
 }
 
 pub fn name(call: Call) -> String {
@@ -52,19 +53,31 @@ impl Line {
 }
 
 /// The columns of a line from the left. An error names the column.
-struct Columns<'a>(std::str::Split<'a, char>);
+pub(crate) struct Columns<'a>(std::str::Split<'a, char>);
 
 impl<'a> Columns<'a> {
+    pub(crate) fn of(line: &'a str) -> Columns<'a> {
+        Columns(line.split('\t'))
+    }
+
+    /// No column may be left over.
+    pub(crate) fn end(&mut self) -> Result<(), String> {
+        match self.0.next() {
+            Some(column) => Err(format!("a column too many: '{column}'")),
+            None => Ok(()),
+        }
+    }
+
     fn next<T>(&mut self, name: &str, read: impl Fn(&'a str) -> Option<T>) -> Result<T, String> {
         let column = self.0.next().ok_or(format!("the column {name} is missing"))?;
         read(column).ok_or(format!("the column {name} cannot be read: '{column}'"))
     }
 
-    fn bytes(&mut self, name: &str) -> Result<Vec<u8>, String> {
+    pub(crate) fn bytes(&mut self, name: &str) -> Result<Vec<u8>, String> {
         self.next(name, hex::decode)
     }
 
-    fn number<T: FromStr>(&mut self, name: &str) -> Result<T, String> {
+    pub(crate) fn number<T: FromStr>(&mut self, name: &str) -> Result<T, String> {
         self.next(name, |column| column.parse().ok())
     }
 
@@ -77,20 +90,18 @@ impl<'a> Columns<'a> {
         self.next(name, |column| u64::from_str_radix(column, 16).ok())
     }
 
-    fn as_it_stands(&mut self, name: &str) -> Result<String, String> {
+    pub(crate) fn as_it_stands(&mut self, name: &str) -> Result<String, String> {
         self.next(name, |column| Some(column.to_string()))
     }
 }
 
 /// A line of a call's table; an error tells what cannot be read.
 pub fn parse(call: Call, line: &str) -> Result<Line, String> {
-    let mut columns = Columns(line.split('\t'));
+    let mut columns = Columns::of(line);
     let request = parse_request(call, &mut columns)?;
     let (due, more) = parse_response(call, &mut columns)?;
-    match columns.0.next() {
-        Some(column) => Err(format!("a column too many: '{column}'")),
-        None => Ok(Line { request, due, more }),
-    }
+    columns.end()?;
+    Ok(Line { request, due, more })
 }
 
 fn parse_request(call: Call, columns: &mut Columns) -> Result<Request, String> {

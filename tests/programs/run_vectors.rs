@@ -1,9 +1,12 @@
 //! Runs every vector file through the linked libraries, and the line files through the line program.
 
+mod sequences;
+
 use harness::call::{Call, Request, Response};
 use harness::fence::Side;
 use harness::library::{Case, Library, Setting};
 use harness::lines;
+use harness::sequence;
 use harness::table::{self, Line};
 use harness::tally::Tally;
 use harness::told::{self, Difference, Told};
@@ -17,8 +20,8 @@ use std::process::{Command, ExitCode, Output, Stdio};
 const USAGE: &str = "usage: run_vectors FOLDER --lines PROGRAM [--partial] [--only TABLE LINE | --only FILE.in]
   FOLDER              the folder of the vectors
   --lines PROGRAM     the line program
-  --partial           for trials: tables, lines of tables, line files or the line program may be missing
-  --only TABLE LINE   one line of one table, counted from 1; wants no line program
+  --partial           for trials: tables, lines of tables, sequences, line files or the line program may be missing
+  --only TABLE LINE   one line of one table, or one call of register.txt, counted from 1; wants no line program
   --only FILE.in      one line file";
 
 /// The longest area of the vectors is far below this.
@@ -68,21 +71,28 @@ fn options() -> Options {
     options
 }
 
-/// What stands behind `--only`; a table may go without its ending.
+/// What stands behind `--only`; a table and the sequences may go without their ending.
 fn only_one(words: &mut Words) -> Only {
     let name = words.value("--only");
     if name.ends_with(".in") {
         return Only::File(name);
     }
-    let table = format!("{}.tsv", name.strip_suffix(".tsv").unwrap_or(&name));
-    Only::Line(table, words.number("--only"))
+    let file = match name.strip_suffix(".tsv").unwrap_or(&name) {
+        "register" | sequence::REGISTER => sequence::REGISTER.to_string(),
+        table => format!("{table}.tsv"),
+    };
+    Only::Line(file, words.number("--only"))
 }
 
 /// What is wrong with options that can be read.
 fn fault(options: &Options) -> Option<String> {
     match &options.only {
+        Some(Only::Line(name, line)) if name == sequence::REGISTER => {
+            let has_call = read(options, name).is_ok_and(|text| sequences::has_call(&text, *line));
+            (!has_call).then(|| format!("'{name}' is missing, or its line {line} is, or is no call"))
+        }
         Some(Only::Line(name, _)) if !table::names().contains(name) => {
-            Some(format!("no table is called '{name}'; tables: {}", table::names().join(" ")))
+            Some(format!("no table is called '{name}'; tables: {} {}", table::names().join(" "), sequence::REGISTER))
         }
         Some(Only::Line(name, line)) if !has_line(&options.folder.join(name), *line) => {
             Some(format!("'{name}' is missing, or its line {line} is, or is a comment"))
@@ -119,13 +129,17 @@ fn main() -> ExitCode {
     tally.finish()
 }
 
-/// Two checks that the vectors are all there.
+/// Checks that the vectors are all there.
 fn sizes(options: &Options, tally: &mut Tally) {
     let calls: Vec<Call> = Call::ALL.into_iter().filter(|&call| table::exists(call)).collect();
     let few: Vec<String> = calls.iter().flat_map(|&call| too_few(call, read(options, &table::name(call)))).collect();
     let due = format!("{LEAST_LINES} different lines each, {LEAST_OF_A_NUMBER} for each number");
     let detail = format!("{} tables, at least {due}{}", calls.len(), few.concat());
     tally.check("tables are whole", few.is_empty(), detail);
+    let few =
+        read(options, sequence::REGISTER).map_or_else(|error| vec![format!(" {error}")], |text| sequences::too_few(&text));
+    let due = format!("{} lines, {} for each number", sequences::LEAST_LINES, sequences::LEAST_OF_A_NUMBER);
+    tally.check("sequences are whole", few.is_empty(), format!("at least {due}{}", few.concat()));
     let files = names(&options.folder, ".in").len();
     tally.check("line files are all there", files >= LEAST_LINE_FILES, format!("{files}, at least {LEAST_LINE_FILES}"));
 }
@@ -152,31 +166,43 @@ fn too_few(call: Call, table: Result<String, String>) -> Vec<String> {
     few
 }
 
-/// One check for each call's file and for each other use of a file, and one that no other table stands in the folder unread.
+/// One check for each call's file and for each other use of a file, one for the sequences, and one that no other table or
+/// sequence stands in the folder unread.
 fn call_files(options: &Options, tally: &mut Tally) {
     let mut library = Library::fenced(LONGEST, options.again.clone());
     let own = Call::ALL.into_iter().filter(|&call| table::exists(call)).map(|call| (call, "", answers as Check));
     let others: [(Call, &str, Check); 2] =
         [(Call::Intake, " through the code", through_code), (Call::UnitRead, " as one code", as_one_code)];
     for (call, use_of, check) in own.chain(others) {
-        let name = table::name(call);
-        let only = match &options.only {
-            Some(Only::Line(table, _)) if *table != name => continue,
-            Some(Only::Line(_, line)) => Some(*line),
-            _ => None,
-        };
-        if options.partial && !options.folder.join(&name).exists() {
-            println!("missing: {name}{use_of}");
-            continue;
-        }
-        let found = read(options, &name).and_then(|table| run_table(&table, call, only, &mut library, check));
-        report(tally, &format!("{name}{use_of}"), found);
+        file(options, tally, &table::name(call), use_of, |table, only| run_table(table, call, only, &mut library, check));
     }
-    let known = table::names();
-    let unread: Vec<String> = names(&options.folder, ".tsv").into_iter().filter(|name| !known.contains(name)).collect();
+    file(options, tally, sequence::REGISTER, "", |text, only| sequences::run(text, only, &mut library, &settings()));
+    let known = [table::names(), vec![sequence::REGISTER.to_string()]].concat();
+    let files = [names(&options.folder, ".tsv"), names(&options.folder, ".txt")].concat();
+    let unread: Vec<String> = files.into_iter().filter(|name| !known.contains(name)).collect();
     if !unread.is_empty() {
         tally.check("tables", false, format!("no call reads {}", unread.join(" ")));
     }
+}
+
+/// One check: a file or one line of it, where the options do not leave it out.
+fn file(
+    options: &Options,
+    tally: &mut Tally,
+    name: &str,
+    use_of: &str,
+    run: impl FnOnce(&str, Option<u64>) -> Result<String, String>,
+) {
+    let only = match &options.only {
+        Some(Only::Line(table, _)) if table != name => return,
+        Some(Only::Line(_, line)) => Some(*line),
+        _ => None,
+    };
+    if options.partial && !options.folder.join(name).exists() {
+        println!("missing: {name}{use_of}");
+        return;
+    }
+    report(tally, &format!("{name}{use_of}"), read(options, name).and_then(|text| run(&text, only)));
 }
 
 fn report(tally: &mut Tally, name: &str, found: Result<String, String>) {

@@ -32,7 +32,7 @@ fn cleaned(text: &[u8]) -> Vec<u8> {
 }
 
 /// The bytes of the one unit or composite that a text means: tests 2, 1, 3 to 14.
-fn code_bytes(text: &[u8]) -> Answer<Vec<u8>> {
+pub(crate) fn code_bytes(text: &[u8]) -> Answer<Vec<u8>> {
     demand(text.len() <= 1024, TEXT_TOO_LONG)?;
     let run = cleaned(text);
     demand(!run.is_empty(), NOTHING_LEFT)?;

@@ -11,6 +11,7 @@ pub mod doors;
 pub mod header;
 pub mod lines;
 pub mod refusal;
+pub mod register;
 pub mod unit;
 
 /// What a call answers: its value, or the number of its refusal.

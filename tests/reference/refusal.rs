@@ -19,3 +19,7 @@ pub const NOT_THE_WRITTEN_TEXT: u32 = 16;
 pub const NUMBER_TOO_LARGE: u32 = 17;
 pub const NO_DISTANCE: u32 = 18;
 pub const BYTES_LEFT_OVER: u32 = 19;
+pub const ALREADY_OUT: u32 = 20;
+pub const ALL_OUT: u32 = 21;
+pub const NOT_OUT: u32 = 22;
+pub const NOT_REGISTER: u32 = 23;

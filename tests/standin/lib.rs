@@ -3,7 +3,7 @@
 
 use reference::distance::Distance;
 use reference::header::Header;
-use reference::{base32, composite, distance, doors, header, unit, Answer};
+use reference::{base32, composite, distance, doors, header, register, unit, Answer};
 
 #[repr(C)]
 pub struct Written {
@@ -30,6 +30,12 @@ pub struct HeaderAnswer {
     used: usize,
 }
 
+#[repr(C)]
+pub struct Holder {
+    number: u32,
+    borrower: u32,
+}
+
 /// A lent area; null stands for an empty one.
 unsafe fn lent<'a>(start: *const u8, length: usize) -> &'a [u8] {
     if length == 0 {
@@ -54,6 +60,17 @@ fn written(answer: Answer<Vec<u8>>, area: &mut [u8]) -> Written {
         Ok(bytes) => {
             area[..bytes.len()].copy_from_slice(&bytes);
             Written { number: 0, length: bytes.len() }
+        }
+    }
+}
+
+/// Copies the register as the call leaves it, and on a refusal nothing.
+fn changed(answer: Answer<Vec<u8>>, area: &mut [u8]) -> u32 {
+    match answer {
+        Err(number) => number,
+        Ok(bytes) => {
+            area.copy_from_slice(&bytes);
+            0
         }
     }
 }
@@ -133,4 +150,30 @@ pub unsafe extern "C" fn probe_unit_write(
     out_len: usize,
 ) -> Written {
     written(unit::write([main_type, subtype, version, length], lent(body, body_len), out_len), lent_out(out, out_len))
+}
+
+#[no_mangle]
+pub unsafe extern "C" fn loans_issue(
+    text: *const u8,
+    text_len: usize,
+    borrower: u32,
+    area: *mut u8,
+    area_len: usize,
+) -> u32 {
+    let area = lent_out(area, area_len);
+    changed(register::issue(lent(text, text_len), borrower, area), area)
+}
+
+#[no_mangle]
+pub unsafe extern "C" fn loans_return(text: *const u8, text_len: usize, area: *mut u8, area_len: usize) -> u32 {
+    let area = lent_out(area, area_len);
+    changed(register::take_back(lent(text, text_len), area), area)
+}
+
+#[no_mangle]
+pub unsafe extern "C" fn loans_ask(text: *const u8, text_len: usize, area: *const u8, area_len: usize) -> Holder {
+    match register::ask(lent(text, text_len), lent(area, area_len)) {
+        Err(number) => Holder { number, borrower: 0 },
+        Ok(borrower) => Holder { number: 0, borrower },
+    }
 }

@@ -17,11 +17,11 @@ use Rattle.iscc.specs.Lists.{Reordered}
 use Rattle.iscc.specs.Doors.{scheme, itemsOfText, meaningOfText, textOf, intake, writtenText, strict}
 use Rattle.iscc.specs.Representation.{writtenAs, outcomeAs}
 use Rattle.iscc.proofs.Answer.{accepted, value-of, accept-inj, passed}
-use Rattle.iscc.proofs.Numbers.{number-0, outcome-length, intake-numbered, strict-numbered}
+use Rattle.iscc.proofs.Numbers.{outcome-length, intake-numbered, strict-numbered}
 use Rattle.iscc.proofs.Demand3.{intake-of, intake-means, written-of, strict-of, strict-means}
 use Rattle.iscc.proofs.Doors.{meant, back, short, demand3}
 use Rattle.console.specs.Demand3.{ConsoleDemand3, answerOf, areaOf, textIn, strictNumber}
-use Rattle.console.proofs.Numbers.{told-of}
+use Rattle.console.proofs.Numbers.{of-table, told-of}
 
 -- ---- the doors
 
@@ -29,7 +29,7 @@ intake-zero : (t a : List ℕ) → (answerOf t a .number ≡ 0) ↔ Accepted (in
 intake-zero t a = told-of (intake t (length a)) (intake-numbered t (length a)) .number .success
 
 strict-zero : (t : List ℕ) → (strictNumber t ≡ 0) ↔ Accepted (strict t)
-strict-zero t = number-0 (strict t) (strict-numbered t)
+strict-zero t = of-table (strict t) (strict-numbered t) .success
 
 text-in : (t a : List ℕ) → textIn t a ≡ writtenText t a
 unfolding writtenText

@@ -2,3 +2,4 @@
 pub mod Laws
 pub mod Numbers
 pub mod Demand3
+pub mod Loans

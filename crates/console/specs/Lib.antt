@@ -2,4 +2,5 @@
 pub mod Representation
 pub mod Numbers
 pub mod Demand3
+pub mod Loans
 pub mod Version

@@ -12,16 +12,17 @@ use Rattle.iscc.specs.Distance.{distance}
 use Rattle.iscc.specs.Representation.{writtenAs, outcomeAs}
 use Rattle.iscc.specs.declared.written.Outcome.{Outcome}
 use Rattle.distance.specs.Representation.{measuredAs}
-use Rattle.console.specs.Representation.{distanceAnswerAs}
+use Rattle.loans.specs.Contents.{issueText, returnText, askText}
+use Rattle.console.specs.Representation.{distanceAnswerAs, holderAnswerAs}
 
--- a number that is 0 exactly where the definition accepts, and else one of the table
-pub record NumberFor {A : Type 0} (x : Answer A) (number : ℕ) : Type 0 where
+-- a number that is 0 exactly where the definition accepts, and else one of the table up to the given one
+pub record NumberFor {A : Type 0} (most : ℕ) (x : Answer A) (number : ℕ) : Type 0 where
   pub success : (number ≡ 0) ↔ Accepted x
-  pub table : number ≤ 19
+  pub table : number ≤ most
 
 -- what a writer tells: such a number, and the length written
 pub record ToldOf (x : Answer (List ℕ)) (o : Outcome) : Type 0 where
-  pub number : NumberFor x (o .number)
+  pub number : NumberFor 19 x (o .number)
   pub length : o .length ≡ written x
 
 pub record ConsoleNumbers : Type 0 where
@@ -30,5 +31,9 @@ pub record ConsoleNumbers : Type 0 where
   pub textTold : (bs : List ℕ) (area : ℕ) → ToldOf (writeText bs area) (outcomeAs (writtenAs (writeText bs area)))
   pub joinTold : (bs : List ℕ) (area : ℕ) → Below 256 bs → ToldOf (join bs area) (outcomeAs (writtenAs (join bs area)))
   pub splitTold : (bs : List ℕ) (area : ℕ) → ToldOf (split bs area) (outcomeAs (writtenAs (split bs area)))
-  pub strictTold : (t : List ℕ) → NumberFor (strict t) (numberOf (strict t))
-  pub distanceTold : (x y : List ℕ) → NumberFor (distance x y) (distanceAnswerAs (measuredAs (distance x y)) .number)
+  pub strictTold : (t : List ℕ) → NumberFor 19 (strict t) (numberOf (strict t))
+  pub distanceTold : (x y : List ℕ) → NumberFor 19 (distance x y) (distanceAnswerAs (measuredAs (distance x y)) .number)
+  -- those of the register, which have 20 to 23 too
+  pub issueTold : (t : List ℕ) (b : ℕ) (area : List ℕ) → NumberFor 23 (issueText t b area) (numberOf (issueText t b area))
+  pub returnTold : (t area : List ℕ) → NumberFor 23 (returnText t area) (numberOf (returnText t area))
+  pub askTold : (t area : List ℕ) → NumberFor 23 (askText t area) (holderAnswerAs (askText t area) .number)

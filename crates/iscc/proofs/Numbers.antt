@@ -168,10 +168,10 @@ number-table x h q e =
     let t = both-true (leb 1 (q .number)) (leb (q .number) 19) (h .refused q e) in
     (leb-true 1 (q .number) (t .0), leb-true (q .number) 19 (t .1))
 
--- the number is 0 exactly where the definition accepts
-pub number-0 : {A : Type 0} (x : Answer A) → Numbered x → (numberOf x ≡ 0) ↔ Accepted x
+-- where no refusal has the number 0, the number is 0 exactly where the definition accepts
+pub number-0 : {A : Type 0} (x : Answer A) → ((q : Refusal) → x ≡ refuse q → 1 ≤ q .number) → (numberOf x ≡ 0) ↔ Accepted x
 number-0 (accept a) h = ((λ e. tt), λ t. refl)
-number-0 (refuse q) h = ((λ e. let t = number-table (refuse q) h q refl in absurd (omega (arith, t .0, e))), λ t. absurd t)
+number-0 (refuse q) h = ((λ e. absurd (omega (arith, h q refl, e))), λ t. absurd t)
 
 -- a writer tells C its definition's number and the length written
 pub outcome-number : (x : Answer (List ℕ)) → outcomeAs (writtenAs x) .number ≡ numberOf x

@@ -87,6 +87,22 @@ noDistance = refusal 18
 abbrev pub bytesLeftOver : Refusal
 bytesLeftOver = refusal 19
 
+-- the code is out already
+abbrev pub alreadyOut : Refusal
+alreadyOut = refusal 20
+
+-- 256 others are out
+abbrev pub allOut : Refusal
+allOut = refusal 21
+
+-- the code is not out
+abbrev pub notOut : Refusal
+notOut = refusal 22
+
+-- the area is not a register
+abbrev pub notRegister : Refusal
+notRegister = refusal 23
+
 -- the table, in its order
 abbrev pub refusals : List Refusal
 refusals =
@@ -109,4 +125,8 @@ refusals =
     ∷ numberTooLarge
     ∷ noDistance
     ∷ bytesLeftOver
+    ∷ alreadyOut
+    ∷ allOut
+    ∷ notOut
+    ∷ notRegister
     ∷ []

@@ -65,8 +65,20 @@ impl Refusal {
     // Bytes left over where exactly one unit is wanted.
     pub const BYTES_LEFT_OVER: Refusal = Refusal { number: 19 };
 
+    // The code is out already.
+    pub const ALREADY_OUT: Refusal = Refusal { number: 20 };
+
+    // 256 others are out.
+    pub const ALL_OUT: Refusal = Refusal { number: 21 };
+
+    // The code is not out.
+    pub const NOT_OUT: Refusal = Refusal { number: 22 };
+
+    // The area is not a register.
+    pub const NOT_REGISTER: Refusal = Refusal { number: 23 };
+
     // Every refusal in the order of the table: ties the names above to those of the definitions.
-    pub fn all() -> [Refusal; 19]
+    pub fn all() -> [Refusal; 23]
         ensures { λ r. ⌜ r ≡ refusals ⌝ }
     {
         [
@@ -89,6 +101,10 @@ impl Refusal {
             Refusal::NUMBER_TOO_LARGE,
             Refusal::NO_DISTANCE,
             Refusal::BYTES_LEFT_OVER,
+            Refusal::ALREADY_OUT,
+            Refusal::ALL_OUT,
+            Refusal::NOT_OUT,
+            Refusal::NOT_REGISTER,
         ]
     }
 }

@@ -1,0 +1,49 @@
+// The loans register: include/loans.h declares its entries.
+ghost use mathlib.Core.Path.{_≡_};
+ghost use Rattle.iscc.specs.Answer.{numberOf};
+ghost use Rattle.loans.specs.Calls.{afterwards};
+ghost use Rattle.loans.specs.Contents.{issueText, returnText, askText};
+ghost use Rattle.console.specs.Representation.{holderAnswerAs};
+use register::answer::Holder;
+
+// Number 0 and the borrower; or a refusal and 0.
+#[repr(C)]
+pub struct HolderAnswer {
+    pub number: u32,
+    pub borrower: u32,
+}
+
+#[no_mangle]
+pub extern "C" fn loans_issue(text: &[u8], borrower: u32, area: &mut [u8]) -> u32
+    ensures number { λ r. ⌜ r ≡ numberOf (issueText (now (text .entry)) borrower (now (area .entry))) ⌝ }
+    ensures area { λ _. ⌜ now (area .exit) ≡ afterwards (now (area .entry)) (issueText (now (text .entry)) borrower (now (area .entry))) ⌝ }
+{
+    let answer = register::calls::issue(text, borrower, area);
+    answer.number()
+}
+
+#[no_mangle]
+pub extern "C" fn loans_return(text: &[u8], area: &mut [u8]) -> u32
+    ensures number { λ r. ⌜ r ≡ numberOf (returnText (now (text .entry)) (now (area .entry))) ⌝ }
+    ensures area { λ _. ⌜ now (area .exit) ≡ afterwards (now (area .entry)) (returnText (now (text .entry)) (now (area .entry))) ⌝ }
+{
+    let answer = register::calls::take_back(text, area);
+    answer.number()
+}
+
+#[no_mangle]
+pub extern "C" fn loans_ask(text: &[u8], area: &[u8]) -> HolderAnswer
+    ensures { λ r. ⌜ r ≡ holderAnswerAs (askText (now (text .entry)) (now (area .entry))) ⌝ }
+{
+    let answer = register::calls::ask(text, area);
+    match answer {
+        Holder::Borrower(b) => HolderAnswer {
+            number: 0,
+            borrower: b,
+        },
+        Holder::Refused(q) => HolderAnswer {
+            number: q.number,
+            borrower: 0,
+        },
+    }
+}

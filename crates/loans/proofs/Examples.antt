@@ -1,0 +1,42 @@
+-- The small cases hold, by computation.
+use mathlib.Core.Path.{refl}
+use mathlib.Core.List.{flatten}
+use Rattle.iscc.specs.Lists.{every, pairwise, cut, sameBytes}
+use Rattle.iscc.specs.Digits.{digits, value, allBelow, byteCount, spareCount, fromDigits}
+use Rattle.iscc.specs.Alphabet.{upper, indexOf, digitIn, decode}
+use Rattle.iscc.specs.Base32.{base32}
+use Rattle.iscc.specs.Varnibble.{firstOf, prefixOf, rowOf, rowBy, varnibble, readVarnibble}
+use Rattle.iscc.specs.Header.{nibbles, packed, headerBytes, readHeader}
+use Rattle.iscc.specs.Permitted.{typeOf, mainTypeOf, sets, setOf, unitTypes, compositeSubtype, row, bodyBytes}
+use Rattle.iscc.specs.Item.{itemBytes, readItem, readOne, compositeOf, meaningAs, unitLengthNumber, itemOf}
+use Rattle.iscc.specs.Items.{readUpTo, readItems, bodyIn, subtypeIn, subtypeOf, compositeFrom, meaningOfItems}
+use Rattle.iscc.specs.Doors.{isBlank, trimStart, trimEnd, scheme, schemeLength, dropHyphens, trimmed, behindScheme, cleaned, decodeRun, payload, itemsOfText, meaningOfText, codeBytes}
+use Rattle.loans.specs.Loan.{oneCode, find, without}
+use Rattle.loans.specs.Map.{changeWith}
+use Rattle.loans.specs.Place.{zeros, placeBytes, placeOf, isPlace, loansIn}
+use Rattle.loans.specs.Contents.{put, cleared, allDistinct}
+use Rattle.loans.specs.Examples.{Examples}
+
+pub examples : Examples
+unfolding digits value allBelow byteCount spareCount fromDigits upper indexOf digitIn decode base32 firstOf prefixOf rowOf rowBy varnibble readVarnibble nibbles packed headerBytes readHeader typeOf mainTypeOf sets setOf unitTypes compositeSubtype row bodyBytes itemBytes readItem readOne cut compositeOf meaningAs unitLengthNumber flatten itemOf readUpTo readItems every pairwise bodyIn subtypeIn subtypeOf compositeFrom meaningOfItems isBlank trimStart trimEnd sameBytes scheme schemeLength dropHyphens trimmed behindScheme cleaned decodeRun payload itemsOfText meaningOfText codeBytes oneCode find without zeros placeBytes placeOf isPlace loansIn put cleared allDistinct changeWith
+examples =
+    record {
+      place = refl;
+      placeBack = refl;
+      placeValid = refl;
+      fillNotZero = refl;
+      zeroByteNotZero = refl;
+      lengthTooShort = refl;
+      lengthTooLong = refl;
+      twoUnits = refl;
+      freeNotZero = refl;
+      lowestFree = refl;
+      holeFilled = refl;
+      taken = refl;
+      outAlready = refl;
+      notThere = refl;
+      twice = refl;
+      typedApart = refl;
+      typedSmall = refl;
+      typedAround = refl;
+    }

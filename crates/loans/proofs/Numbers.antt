@@ -1,0 +1,120 @@
+-- The numbers of the calls: those of a text are 1 to 19, 23 is given where the area is no register, and the register's own are 20 to 22.
+use Prim.Native.Nat.{ℕ, _≤_}
+use mathlib.Core.Path.{_≡_, sym, _∙_, ap, subst}
+use mathlib.Core.Logic.{inl, inr}
+use mathlib.Core.Bool.{Bool, true, false, not}
+use mathlib.Core.Option.{Option, none, some}
+use mathlib.Core.List.{List}
+use native.Mathlib.Omega.{arith}
+use lib.ListN.{length}
+use lib.Dec.{ltb}
+use Rattle.iscc.specs.Refusals.{Refusal, alreadyOut, allOut, notOut, notRegister}
+use Rattle.iscc.specs.Answer.{Answer, accept, refuse, _>>=_, _>>_, _otherwise_}
+use Rattle.iscc.specs.Doors.{codeBytes, readCode}
+use Rattle.iscc.proofs.Answer.{refuse-inj, bind-refused, never}
+use Rattle.iscc.proofs.Numbers.{code-numbered, number-table}
+use Rattle.loans.specs.Loan.{Loan, loanOf, isOut}
+use Rattle.loans.specs.Map.{Change, issueCode, returnCode, changeWith, holderOf}
+use Rattle.loans.specs.Calls.{Call, issue, takeBack, ask, resultOf, issued, returned, borrowerOf}
+use Rattle.loans.specs.Register.{Register, changedArea, askedArea, callArea}
+use Rattle.loans.proofs.Loan.{read-is}
+
+-- a refusal has a number from n to m
+abbrev pub Within : ℕ → ℕ → Refusal → Type 0
+Within n m q = (n ≤ q .number) × (q .number ≤ m)
+
+within-as : {A : Type 0} (n m : ℕ) (p q : Refusal) → Within n m p → _≡_ {A = Answer A} (refuse p) (refuse q) → Within n m q
+within-as n m p q w e = subst (Within n m) (refuse-inj e) w
+
+pub text-numbers : (t : List ℕ) (q : Refusal) → codeBytes t ≡ refuse q → Within 1 19 q
+text-numbers t q e = number-table (readCode t 42) (code-numbered t 42) q (read-is t ∙ e)
+
+-- ---- the register's own
+
+pub change-numbers : {S : Type 0} (loans : S → List Loan) (put : Loan → S → S) (cleared : List ℕ → S → S) (ch : Change) (s : S) (q : Refusal)
+    → changeWith loans put cleared ch s ≡ refuse q → Within 20 22 q
+unfolding changeWith
+change-numbers loans put cleared (issueCode c b) s q e = go (isOut c (loans s)) (ltb (length (loans s)) 256) e
+  where
+    go : (o f : Bool) → (not o otherwise alreadyOut >> (f otherwise allOut >> accept (put (loanOf c b) s))) ≡ refuse q → Within 20 22 q
+    go true f e = within-as 20 22 alreadyOut q (omega arith, omega arith) e
+    go false false e = within-as 20 22 allOut q (omega arith, omega arith) e
+    go false true e = absurd (never (sym e))
+change-numbers loans put cleared (returnCode c) s q e = go (isOut c (loans s)) e
+  where
+    go : (o : Bool) → (o otherwise notOut >> accept (cleared c s)) ≡ refuse q → Within 20 22 q
+    go true e = absurd (never (sym e))
+    go false e = within-as 20 22 notOut q (omega arith, omega arith) e
+
+pub answer-numbers : (o : Option ℕ) (q : Refusal) → holderOf o ≡ refuse q → Within 20 22 q
+answer-numbers none q e = within-as 20 22 notOut q (omega arith, omega arith) e
+answer-numbers (some b) q e = absurd (never (sym e))
+
+-- ---- the calls
+
+module _ {S : Type 0} (r : Register S) (own : (ch : Change) (s : S) (q : Refusal) → r .changes ch s ≡ refuse q → Within 20 22 q)
+    (asks : (c : List ℕ) (s : S) (q : Refusal) → r .asks c s ≡ refuse q → Within 20 22 q) (area : List ℕ) where
+  -- behind the test of the area
+  tested : {A : Type 0} (b : Bool) (x : Answer A) (q : Refusal) → ((p : Refusal) → x ≡ refuse p → Within 20 22 p) → (b otherwise notRegister >> x) ≡ refuse q
+      → Within 20 23 q
+  tested true x q f e = let w = f q e in (w .0, omega (arith, w .1))
+  tested false x q f e = within-as 20 23 notRegister q (omega arith, omega arith) e
+
+  own-bytes : (ch : Change) (q : Refusal) → (r .changes ch (r .contents area) >>= λ s. accept (r .bytes s)) ≡ refuse q → Within 20 22 q
+  own-bytes ch q e =
+      elim (bind-refused (r .changes ch (r .contents area)) (λ s. accept (r .bytes s)) e) [
+        | inl x ↦ own ch (r .contents area) q x
+        | inr x ↦ absurd (never (sym (x .2)))
+      ]
+
+  changed-numbers : (ch : Change) (q : Refusal) → changedArea r ch area ≡ refuse q → Within 20 23 q
+  unfolding changedArea
+  changed-numbers ch q e = tested (r .valid area) _ q (own-bytes ch) e
+
+  asked-numbers : (c : List ℕ) (q : Refusal) → askedArea r c area ≡ refuse q → Within 20 23 q
+  unfolding askedArea
+  asked-numbers c q e = tested (r .valid area) _ q (asks c (r .contents area)) e
+
+  by-text : {A : Type 0} (t : List ℕ) (f : List ℕ → Answer A) (q : Refusal) → ((c : List ℕ) → f c ≡ refuse q → Within 20 23 q) → (codeBytes t >>= f) ≡ refuse q
+      → Within 1 23 q
+  by-text t f q n e =
+      elim (bind-refused (codeBytes t) f e) [
+        | inl x ↦ let w = text-numbers t q x in (w .0, omega (arith, w .1))
+        | inr x ↦ let w = n (x .0) (x .2) in (omega (arith, w .0), w .1)
+      ]
+
+  pub issue-numbers : (t : List ℕ) (b : ℕ) (q : Refusal) → issued (changedArea r) t b area ≡ refuse q → Within 1 23 q
+  unfolding issued
+  issue-numbers t b q e = by-text t _ q (λ c. changed-numbers (issueCode c b) q) e
+
+  pub return-numbers : (t : List ℕ) (q : Refusal) → returned (changedArea r) t area ≡ refuse q → Within 1 23 q
+  unfolding returned
+  return-numbers t q e = by-text t _ q (λ c. changed-numbers (returnCode c) q) e
+
+  pub ask-numbers : (t : List ℕ) (q : Refusal) → borrowerOf (askedArea r) t area ≡ refuse q → Within 1 23 q
+  unfolding borrowerOf
+  ask-numbers t q e = by-text t _ q (λ c. asked-numbers c q) e
+
+  -- ---- where the area is a register none of them is 23
+
+  module _ (v : r .valid area ≡ true) where
+    changed-not-23 : (ch : Change) → changedArea r ch area ≡ refuse notRegister → ⊥
+    unfolding changedArea
+    changed-not-23 ch e = omega (arith, own-bytes ch notRegister (rw v at e) .1)
+
+    asked-not-23 : (c : List ℕ) → askedArea r c area ≡ refuse notRegister → ⊥
+    unfolding askedArea
+    asked-not-23 c e = omega (arith, asks c (r .contents area) notRegister (rw v at e) .1)
+
+    text-not-23 : {A : Type 0} (t : List ℕ) (f : List ℕ → Answer A) → ((c : List ℕ) → f c ≡ refuse notRegister → ⊥) → (codeBytes t >>= f) ≡ refuse notRegister → ⊥
+    text-not-23 t f n e = elim (bind-refused (codeBytes t) f e) [ inl x ↦ omega (arith, text-numbers t notRegister x .1) | inr x ↦ n (x .0) (x .2) ]
+
+    of-result : (x : Answer (List ℕ)) → resultOf area x .answer ≡ refuse notRegister → x ≡ refuse notRegister
+    of-result (accept a) e = absurd (never (sym e))
+    of-result (refuse q) e = ap refuse (refuse-inj e)
+
+    pub never-23 : (k : Call) → callArea r k area .answer ≡ refuse notRegister → ⊥
+    unfolding issued returned borrowerOf
+    never-23 (issue t b) e = text-not-23 t _ (λ c. changed-not-23 (issueCode c b)) (of-result (issued (changedArea r) t b area) e)
+    never-23 (takeBack t) e = text-not-23 t _ (λ c. changed-not-23 (returnCode c)) (of-result (returned (changedArea r) t area) e)
+    never-23 (ask t) e = text-not-23 t _ asked-not-23 e

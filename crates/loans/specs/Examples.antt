@@ -1,0 +1,46 @@
+-- Small cases, by computation (proofs/Examples.antt).
+use Prim.Native.Nat.{ℕ}
+use mathlib.Core.Path.{_≡_}
+use mathlib.Core.Bool.{true, false}
+use mathlib.Core.Option.{none, some}
+use mathlib.Core.List.{List, [], _∷_, _++_}
+use Rattle.iscc.specs.Refusals.{alreadyOut, notOut}
+use Rattle.iscc.specs.Answer.{accept, refuse}
+use Rattle.iscc.specs.Ascii.{ascii}
+use Rattle.iscc.specs.Doors.{codeBytes}
+use Rattle.loans.specs.Loan.{loanOf}
+use Rattle.loans.specs.Map.{issueCode, returnCode}
+use Rattle.loans.specs.Place.{zeros, placeBytes, placeOf, isPlace}
+use Rattle.loans.specs.Contents.{applied, allDistinct}
+
+-- two META units of 32 bits
+abbrev pub one : List ℕ
+one = 0 ∷ 0 ∷ 1 ∷ 2 ∷ 3 ∷ 4 ∷ []
+
+abbrev pub two : List ℕ
+two = 0 ∷ 0 ∷ 1 ∷ 2 ∷ 3 ∷ 5 ∷ []
+
+-- the DATA and INSTANCE units of the first label, as a composite
+abbrev pub label : List ℕ
+label = 0x55 ∷ 0 ∷ 0x6D ∷ 0x3E ∷ 0x22 ∷ 0x8C ∷ 0xBA ∷ 0xB6 ∷ 0xD7 ∷ 0x35 ∷ 0x4A ∷ 0x80 ∷ 0x50 ∷ 0x55 ∷ 0xC9 ∷ 0xBA ∷ 0xF3 ∷ 0x96 ∷ []
+
+pub record Examples : Type 0 where
+  pub place : placeBytes (some (loanOf one 258)) ≡ 6 ∷ one ++ zeros 37 ++ (0 ∷ 0 ∷ 1 ∷ 2 ∷ [])
+  pub placeBack : placeOf (placeBytes (some (loanOf one 258))) ≡ some (loanOf one 258)
+  pub placeValid : isPlace (placeBytes (some (loanOf one 258))) ≡ true
+  pub fillNotZero : isPlace (6 ∷ one ++ (1 ∷ []) ++ zeros 40) ≡ false
+  pub zeroByteNotZero : isPlace (6 ∷ one ++ zeros 36 ++ (1 ∷ []) ++ zeros 4) ≡ false
+  pub lengthTooShort : isPlace (5 ∷ one ++ zeros 41) ≡ false
+  pub lengthTooLong : isPlace (7 ∷ one ++ zeros 41) ≡ false
+  pub twoUnits : isPlace (12 ∷ one ++ two ++ zeros 35) ≡ false
+  pub freeNotZero : isPlace (zeros 47 ++ (1 ∷ [])) ≡ false
+  pub lowestFree : applied (issueCode two 9) (some (loanOf one 1) ∷ none ∷ none ∷ []) ≡ accept (some (loanOf one 1) ∷ some (loanOf two 9) ∷ none ∷ [])
+  pub holeFilled : applied (issueCode two 9) (none ∷ some (loanOf one 1) ∷ none ∷ []) ≡ accept (some (loanOf two 9) ∷ some (loanOf one 1) ∷ none ∷ [])
+  pub taken : applied (returnCode one) (some (loanOf one 1) ∷ some (loanOf two 9) ∷ []) ≡ accept (none ∷ some (loanOf two 9) ∷ [])
+  pub outAlready : applied (issueCode one 9) (some (loanOf one 1) ∷ none ∷ []) ≡ refuse alreadyOut
+  pub notThere : applied (returnCode two) (some (loanOf one 1) ∷ none ∷ []) ≡ refuse notOut
+  pub twice : allDistinct (loanOf one 1 ∷ loanOf two 1 ∷ loanOf one 2 ∷ []) ≡ false
+  -- one label in three spellings: separate units with a hyphen, small letters, units in the other order
+  pub typedApart : codeBytes (ascii "GAAW2PRCRS5LNVZV-IAAUVACQKXE3V44W") ≡ accept label
+  pub typedSmall : codeBytes (ascii "iscc:kuag2prcrs5lnvzvjkafavojxlzzm") ≡ accept label
+  pub typedAround : codeBytes (ascii "iaauvacqkxe3v44w-gaaw2prcrs5lnvzv") ≡ accept label

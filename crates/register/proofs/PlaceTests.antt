@@ -1,0 +1,109 @@
+-- The tests of a code and of a place as branches and a loop make them, and a place made of its parts.
+use Prim.Native.Nat.{ℕ, zero, suc, _+_, _-_, _≤_, _<_}
+use mathlib.Core.Path.{_≡_, refl, sym, _∙_, ap}
+use mathlib.Core.Bool.{Bool, true, false, _&&_, and-false}
+use mathlib.Core.List.{List}
+use native.Mathlib.Numerals.{add-one}
+use native.Mathlib.Omega.{arith}
+use lib.ListN.{length, getD, take, drop, drop-of-length-le}
+use lib.Seq.{drop-cons, drop-drop, take-all}
+use lib.Dec.{eqb}
+use borrow.Author.Tests.{lt-ltb, le-ltb, eq-eqb, ne-eqb, le-leb, lt-leb}
+use Rattle.iscc.specs.Answer.{Answer, accept, refuse}
+use Rattle.iscc.specs.Digits.{allBelow}
+use Rattle.iscc.specs.Item.{Item, readOne}
+use Rattle.iscc.specs.Refusals.{Refusal}
+use Rattle.iscc.proofs.Parts.{drop-take}
+use Rattle.unit.specs.declared.reader.Unit as unit
+use Rattle.unit.specs.declared.reader.UnitRead.{UnitRead}
+use Rattle.unit.specs.declared.reader.UnitRead.the-variants as read
+use Rattle.unit.specs.Representation.{oneReadAs}
+use Rattle.loans.specs.Loan.{isAccepted, oneCode}
+use Rattle.loans.specs.Place.{isPlace}
+
+-- ---- exactly one unit or composite
+
+abbrev isUnit : UnitRead → Bool
+isUnit (read.Unit u) = true
+isUnit (read.Refused q) = false
+
+one-is : (bs : List ℕ) → isUnit (oneReadAs bs (readOne bs)) ≡ oneCode bs
+unfolding oneCode
+one-is bs = go (readOne bs)
+  where
+    go : (x : Answer Item) → isUnit (oneReadAs bs x) ≡ isAccepted x
+    go (accept i) = refl
+    go (refuse q) = refl
+
+pub one-accepted : (bs : List ℕ) (r : UnitRead) (u : unit.Unit) → r ≡ oneReadAs bs (readOne bs) → r ≡ read.Unit u → true ≡ oneCode bs
+one-accepted bs r u e f = ap isUnit (sym f ∙ e) ∙ one-is bs
+
+pub one-refused : (bs : List ℕ) (r : UnitRead) (q : Refusal) → r ≡ oneReadAs bs (readOne bs) → r ≡ read.Refused q → false ≡ oneCode bs
+one-refused bs r q e f = ap isUnit (sym f ∙ e) ∙ one-is bs
+
+-- ---- zeros, by the largest m of the first i bytes
+
+pub record Zeros (bs : List ℕ) (i m : ℕ) : Type 0 where
+  pub within : i ≤ length bs
+  pub is : (eqb m 0 && allBelow 1 (drop i bs)) ≡ allBelow 1 bs
+
+pub zeros-none : (bs : List ℕ) → Zeros bs 0 0
+zeros-none bs = record { within = omega arith; is = refl }
+
+module _ {bs : List ℕ} {i m : ℕ} (z : Zeros bs i m) (h : i < length bs) where
+  -- a larger byte: it is not zero
+  pub zeros-new : m < getD bs i 0 → Zeros bs (i + 1) (getD bs i 0)
+  unfolding allBelow
+  zeros-new l =
+      let f : allBelow 1 (drop i bs) ≡ false = rw (drop-cons bs i 0 h, le-ltb (getD bs i 0) 1 (omega arith)) in
+      let g : false ≡ allBelow 1 bs = sym (and-false (eqb m 0)) ∙ (rw f at (z .is)) in
+      record { within = omega arith; is = rw (ne-eqb (getD bs i 0) 0 (omega arith)) g }
+
+  pub zeros-kept : getD bs i 0 ≤ m → Zeros bs (i + 1) m
+  unfolding allBelow
+  zeros-kept l = record { within = omega arith; is = go m l (z .is) }
+    where
+      go : (m : ℕ) → getD bs i 0 ≤ m → (eqb m 0 && allBelow 1 (drop i bs)) ≡ allBelow 1 bs → (eqb m 0 && allBelow 1 (drop (i + 1) bs)) ≡ allBelow 1 bs
+      go zero l e = sym (rw (drop-cons bs i 0 h, lt-ltb (getD bs i 0) 1 (omega arith), add-one) refl) ∙ e
+      go (suc m) l e = let n : eqb (suc m) 0 ≡ false = ne-eqb (suc m) 0 (omega arith) in rw n (rw n at e)
+
+pub zeros-all : {bs : List ℕ} {i m : ℕ} → Zeros bs i m → length bs ≤ i → eqb m 0 ≡ allBelow 1 bs
+unfolding allBelow
+zeros-all {bs} {i} {m} z h = go (eqb m 0) (sym (ap (λ (xs : List ℕ). eqb m 0 && allBelow 1 xs) (drop-of-length-le bs h)) ∙ z .is)
+  where
+    go : (b : Bool) → (b && true) ≡ allBelow 1 bs → b ≡ allBelow 1 bs
+    go true e = e
+    go false e = e
+
+-- ---- a place
+
+module _ (bs : List ℕ) (l : length bs ≡ 48) (n : ℕ) (e : n ≡ getD bs 0 0) where
+  pub place-free : n ≡ 0 → (r : Bool) → r ≡ allBelow 1 (take 48 bs) → r ≡ isPlace bs
+  unfolding isPlace
+  place-free z r q = rw (← e, eq-eqb n 0 z) (q ∙ ap (allBelow 1) (take-all 48 bs (omega arith)))
+
+  module _ (z : n ≡ 0 → ⊥) where
+    pub place-long : 42 < n → false ≡ isPlace bs
+    unfolding isPlace
+    place-long h = rw (← e, ne-eqb n 0 z, lt-leb n 42 h)
+
+    module _ (h : n ≤ 42) where
+      code-part : take (1 + n - 1) (drop 1 bs) ≡ take n (drop 1 bs)
+      code-part = let k : 1 + n - 1 ≡ n = omega arith in ap (λ (j : ℕ). take j (drop 1 bs)) k
+
+      fill-part : take (44 - (1 + n)) (drop (1 + n) bs) ≡ drop n (take 43 (drop 1 bs))
+      fill-part =
+          let k : 44 - (1 + n) ≡ 43 - n = omega arith in
+          ap (λ (j : ℕ). take j (drop (1 + n) bs)) k ∙ ap (take (43 - n)) (sym (drop-drop n 1 bs)) ∙ sym (drop-take n 43 (drop 1 bs))
+
+      pub place-bad : (r : Bool) → r ≡ oneCode (take (1 + n - 1) (drop 1 bs)) → r ≡ false → false ≡ isPlace bs
+      unfolding isPlace
+      place-bad r p q =
+          let o : oneCode (take n (drop 1 bs)) ≡ false = ap oneCode (sym code-part) ∙ sym p ∙ q in
+          rw (← e, ne-eqb n 0 z, le-leb n 42 h, o)
+
+      pub place-used : (r s : Bool) → r ≡ oneCode (take (1 + n - 1) (drop 1 bs)) → r ≡ true → s ≡ allBelow 1 (take (44 - (1 + n)) (drop (1 + n) bs)) → s ≡ isPlace bs
+      unfolding isPlace
+      place-used r s p q w =
+          let o : oneCode (take n (drop 1 bs)) ≡ true = ap oneCode (sym code-part) ∙ sym p ∙ q in
+          rw (← e, ne-eqb n 0 z, le-leb n 42 h, o) (w ∙ ap (allBelow 1) fill-part)

@@ -1,0 +1,161 @@
+-- The calls by text: what they come to where the text has a code, and where it has none.
+use Prim.Native.Nat.{ℕ, _-_, _≤_}
+use mathlib.Core.Path.{_≡_, refl, sym, _∙_, ap, subst}
+use mathlib.Core.Bool.{Bool, true, false}
+use mathlib.Core.List.{List}
+use lib.ListN.{length, take}
+use Rattle.iscc.specs.Refusals.{Refusal, notRegister}
+use Rattle.iscc.specs.Answer.{Answer, accept, refuse, _>>=_, _>>_, _otherwise_, numberOf}
+use Rattle.iscc.specs.Doors.{codeBytes}
+use Rattle.iscc.specs.Representation.{codeReadAs}
+use Rattle.iscc.specs.declared.code.CodeRead.{CodeRead}
+use Rattle.iscc.specs.declared.code.CodeAnswer.the-variants as coded
+use Rattle.iscc.proofs.Answer.{passed, answered, accept-inj, refuse-inj, never}
+use Rattle.door.specs.Codes.{codeDetail}
+use Rattle.door.proofs.Answers.{code-held, code-not}
+use Rattle.loans.proofs.Loan.{code-in}
+use Rattle.loans.specs.Map.{Change, issueCode, returnCode}
+use Rattle.loans.specs.Calls.{issued, returned, borrowerOf, afterwards}
+use Rattle.loans.specs.Register.{changedArea, askedArea}
+use Rattle.loans.specs.Contents.{isRegister, register, issueText, returnText, askText}
+use Rattle.register.specs.declared.answer.Changed.{Changed}
+use Rattle.register.specs.declared.answer.Changed.the-variants as changes
+use Rattle.register.specs.declared.answer.Holder.{Holder}
+use Rattle.register.specs.declared.answer.Holder.the-variants as holders
+use Rattle.register.specs.Representation.{holderAs, holderNumber, holderBorrower, borrowerIn, changedAs, changedNumber}
+use Rattle.register.specs.Admitted.{admitted, admittedDetail}
+use Rattle.register.proofs.Changes.{Told}
+
+-- what was told of one answer is told of an equal one
+same-told : (x x′ : Answer (List ℕ)) (area : List ℕ) (y : Changed) (d : List ℕ) → x ≡ x′ → Told x′ area y d → Told x area y d
+same-told x x′ area y d e t = subst (λ (z : Answer (List ℕ)). Told z area y d) (sym e) t
+
+told-refusal : (x : Answer (List ℕ)) (area : List ℕ) (q : Refusal) → x ≡ refuse q → Told x area (changes.Refused q) area
+told-refusal x area q e = same-told x (refuse q) area (changes.Refused q) area e (refl, refl)
+
+-- ---- with the numbers of the answers
+
+-- what a call by text tells
+abbrev pub ToldBy : Answer (List ℕ) → List ℕ → Changed → List ℕ → Type 0
+ToldBy x area y d = (y ≡ changedAs x) × ((changedNumber y ≡ numberOf x) × (d ≡ afterwards area x))
+
+changed-number : (x : Answer (List ℕ)) → changedNumber (changedAs x) ≡ numberOf x
+changed-number (accept bs) = refl
+changed-number (refuse q) = refl
+
+by-text : (x : Answer (List ℕ)) (area : List ℕ) (y : Changed) (d : List ℕ) → Told x area y d → ToldBy x area y d
+by-text x area y d t = (t .0, (ap changedNumber (t .0) ∙ changed-number x, t .1))
+
+abbrev pub HolderTold : Answer ℕ → Holder → Type 0
+HolderTold x y = (y ≡ holderAs x) × ((holderNumber y ≡ numberOf x) × (holderBorrower y ≡ borrowerIn x))
+
+holder-number : (x : Answer ℕ) → (holderNumber (holderAs x) ≡ numberOf x) × (holderBorrower (holderAs x) ≡ borrowerIn x)
+holder-number (accept b) = (refl, refl)
+holder-number (refuse q) = (refl, refl)
+
+holder-told : (x : Answer ℕ) (y : Holder) → y ≡ holderAs x → HolderTold x y
+holder-told x y e = (e, (ap holderNumber e ∙ holder-number x .0, ap holderBorrower e ∙ holder-number x .1))
+
+-- ---- the code of a text, where the area is a register
+
+admitted-bound : (t area c : List ℕ) → admitted t area ≡ accept c → (codeBytes t ≡ accept c) × (isRegister area ≡ true)
+unfolding admitted
+admitted-bound t area c e =
+    let w = answered (codeBytes t) (λ d. isRegister area otherwise notRegister >> accept d) e in
+    let p = passed (isRegister area) notRegister (accept (w .0)) (w .2) in
+    (w .1 ∙ ap accept (accept-inj (p .1)), p .0)
+
+-- where it is refused, so is whatever tests 23 behind the text
+admitted-refused : {A : Type 0} (t area : List ℕ) (q : Refusal) (f : List ℕ → Answer A) → ((c : List ℕ) → isRegister area ≡ false → f c ≡ refuse notRegister)
+    → admitted t area ≡ refuse q → (codeBytes t >>= f) ≡ refuse q
+unfolding admitted
+admitted-refused t area q f h e = go (codeBytes t) (isRegister area) refl e
+  where
+    go : (x : Answer (List ℕ)) (b : Bool) → isRegister area ≡ b → (x >>= λ c. b otherwise notRegister >> accept c) ≡ refuse q → (x >>= f) ≡ refuse q
+    go (refuse p) b v e = ap refuse (refuse-inj e)
+    go (accept c) true v e = absurd (never (sym e))
+    go (accept c) false v e = h c v ∙ ap refuse (refuse-inj e)
+
+-- the call's three ways: no code, a code but no register, both
+module _ (t area : List ℕ) (r : CodeRead) (of : r ≡ codeReadAs (codeDetail t) (codeBytes t)) where
+  pub not-read : (q : Refusal) (p : ℕ) → r .answer ≡ coded.Refused q p → r ≡ codeReadAs (admittedDetail t) (admitted t area)
+  unfolding admitted admittedDetail
+  not-read q p e = let o : codeBytes t ≡ refuse q = code-not (codeDetail t) (codeBytes t) r q p of e in of ∙ rw o
+
+  module _ (found : r .answer ≡ coded.Accepted) (b : Bool) (tested : b ≡ isRegister area) where
+    is-code : codeBytes t ≡ accept (take (r .code .length - 0) (r .code .bytes))
+    is-code = code-held (codeDetail t) (codeBytes t) r of found .0
+
+    pub not-register : b ≡ false → (s : CodeRead) → s ≡ codeReadAs 0 (refuse notRegister) → s ≡ codeReadAs (admittedDetail t) (admitted t area)
+    unfolding admitted admittedDetail
+    not-register n s e = let o : isRegister area ≡ false = sym tested ∙ n in e ∙ rw (is-code, o)
+
+    pub both-there : b ≡ true → r ≡ codeReadAs (admittedDetail t) (admitted t area)
+    unfolding admitted admittedDetail
+    both-there y = let o : isRegister area ≡ true = sym tested ∙ y in of ∙ rw (is-code, o)
+
+changed-not : (ch : Change) (area : List ℕ) → isRegister area ≡ false → changedArea register ch area ≡ refuse notRegister
+unfolding changedArea
+changed-not ch area v = rw v
+
+asked-not : (c area : List ℕ) → isRegister area ≡ false → askedArea register c area ≡ refuse notRegister
+unfolding askedArea
+asked-not c area v = rw v
+
+-- ---- the calls
+
+module _ (t area : List ℕ) (k : ℕ) (r : CodeRead) (of : r ≡ codeReadAs k (admitted t area)) where
+  module _ (q : Refusal) (p : ℕ) (e : r .answer ≡ coded.Refused q p) where
+    refused : {A : Type 0} (f : List ℕ → Answer A) → ((c : List ℕ) → isRegister area ≡ false → f c ≡ refuse notRegister) → (codeBytes t >>= f) ≡ refuse q
+    refused f h = admitted-refused t area q f h (code-not k (admitted t area) r q p of e)
+
+    pub issue-refused : (b : ℕ) → ToldBy (issueText t b area) area (changes.Refused q) area
+    unfolding issued
+    issue-refused b =
+        by-text (issueText t b area) area (changes.Refused q) area
+        (told-refusal (issueText t b area) area q (refused (λ c. changedArea register (issueCode c b) area) (λ c. changed-not (issueCode c b) area)))
+
+    pub return-refused : ToldBy (returnText t area) area (changes.Refused q) area
+    unfolding returned
+    return-refused =
+        by-text (returnText t area) area (changes.Refused q) area
+        (told-refusal (returnText t area) area q (refused (λ c. changedArea register (returnCode c) area) (λ c. changed-not (returnCode c) area)))
+
+    pub ask-refused : HolderTold (askText t area) (holders.Refused q)
+    unfolding borrowerOf
+    ask-refused = holder-told (askText t area) (holders.Refused q) (sym (ap holderAs (refused (λ c. askedArea register c area) (λ c. asked-not c area))))
+
+  module _ (found : r .answer ≡ coded.Accepted) where
+    abbrev code : List ℕ
+    code = take (r .code .length - 0) (r .code .bytes)
+
+    bound : (codeBytes t ≡ accept code) × (isRegister area ≡ true)
+    bound = admitted-bound t area code (code-held k (admitted t area) r of found .0)
+
+    pub code-fits : r .code .length ≤ length (r .code .bytes)
+    code-fits = code-held k (admitted t area) r of found .1
+
+    pub is-register : isRegister area ≡ true
+    is-register = bound .1
+
+    pub code-short : length code ≤ 42
+    code-short = code-in t code (bound .0) .most
+
+    by-code : {A : Type 0} (f : List ℕ → Answer A) → (codeBytes t >>= f) ≡ f code
+    by-code f = ap (λ (x : Answer (List ℕ)). x >>= f) (bound .0)
+
+    pub issue-told : (b : ℕ) (y : Changed) (d : List ℕ) → Told (changedArea register (issueCode code b) area) area y d → ToldBy (issueText t b area) area y d
+    unfolding issued
+    issue-told b y d w =
+        by-text (issueText t b area) area y d
+        (same-told (issueText t b area) (changedArea register (issueCode code b) area) area y d (by-code (λ c. changedArea register (issueCode c b) area)) w)
+
+    pub return-told : (y : Changed) (d : List ℕ) → Told (changedArea register (returnCode code) area) area y d → ToldBy (returnText t area) area y d
+    unfolding returned
+    return-told y d w =
+        by-text (returnText t area) area y d
+        (same-told (returnText t area) (changedArea register (returnCode code) area) area y d (by-code (λ c. changedArea register (returnCode c) area)) w)
+
+    pub ask-told : (y : Holder) → y ≡ holderAs (askedArea register code area) → HolderTold (askText t area) y
+    unfolding borrowerOf
+    ask-told y w = holder-told (askText t area) y (w ∙ sym (ap holderAs (by-code (λ c. askedArea register c area))))

@@ -1,0 +1,37 @@
+-- The answers in the code, and the lent area after a change.
+use Prim.Native.Nat.{ℕ}
+use mathlib.Core.List.{List}
+use Rattle.iscc.specs.Answer.{Answer, accept, refuse}
+use Rattle.register.specs.declared.answer.Changed.{Changed}
+use Rattle.register.specs.declared.answer.Changed.the-variants as changes
+use Rattle.register.specs.declared.answer.Holder.{Holder}
+use Rattle.register.specs.declared.answer.Holder.the-variants as holders
+
+-- what a question hands over; "A refusal has borrower 0."
+abbrev pub borrowerIn : Answer ℕ → ℕ
+borrowerIn (accept b) = b
+borrowerIn (refuse q) = 0
+
+-- a question's answer
+abbrev pub holderAs : Answer ℕ → Holder
+holderAs (accept b) = holders.Borrower b
+holderAs (refuse q) = holders.Refused q
+
+-- its number and borrower by the specification
+abbrev pub holderNumber : Holder → ℕ
+holderNumber (holders.Borrower b) = 0
+holderNumber (holders.Refused q) = q .number
+
+abbrev pub holderBorrower : Holder → ℕ
+holderBorrower (holders.Borrower b) = b
+holderBorrower (holders.Refused q) = 0
+
+-- the answer of an issue or a return, which is accepted with the area afterwards
+abbrev pub changedAs : Answer (List ℕ) → Changed
+changedAs (accept bs) = changes.Done
+changedAs (refuse q) = changes.Refused q
+
+-- its number by the specification
+abbrev pub changedNumber : Changed → ℕ
+changedNumber changes.Done = 0
+changedNumber (changes.Refused q) = q .number

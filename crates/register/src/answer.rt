@@ -1,0 +1,28 @@
+// What the calls answer. Their numbers by the specification: `changedNumber` and `holderNumber` of specs/Representation.antt.
+ghost use mathlib.Core.Path.{_≡_};
+ghost use Rattle.register.specs.Representation.{changedNumber};
+use iscc::refusal::Refusal;
+
+// An issue or a return: done, or why it was not.
+pub enum Changed {
+    Done,
+    Refused(Refusal),
+}
+
+impl Changed {
+    // The number alone, for C.
+    pub fn number(self) -> u32
+        ensures { λ r. ⌜ r ≡ changedNumber self ⌝ }
+    {
+        match self {
+            Changed::Done => 0,
+            Changed::Refused(q) => q.number,
+        }
+    }
+}
+
+// Who has a code, or why that is not told.
+pub enum Holder {
+    Borrower(u32),
+    Refused(Refusal),
+}

@@ -1,0 +1,59 @@
+// The register's calls by a typed text: the numbers of the text come first, then 23, then the register's own.
+ghost use mathlib.Core.Path.{_≡_};
+ghost use Rattle.iscc.specs.Answer.{numberOf};
+ghost use Rattle.loans.specs.Calls.{afterwards};
+ghost use Rattle.loans.specs.Contents.{issueText, returnText, askText};
+ghost use Rattle.register.specs.Representation.{holderAs, holderNumber, holderBorrower, borrowerIn, changedAs, changedNumber};
+use crate::admit::admit;
+use crate::answer::Changed;
+use crate::answer::Holder;
+use crate::change;
+use iscc::code::CodeAnswer;
+
+// Issues the code that the text holds: 2, 1, 3 to 14, then 23, 20, 21.
+pub fn issue(text: &[u8], borrower: u32, area: &mut [u8]) -> Changed
+    ensures answer { λ r. ⌜ r ≡ changedAs (issueText (now (text .entry)) borrower (now (area .entry))) ⌝ }
+    ensures number { λ r. ⌜ changedNumber r ≡ numberOf (issueText (now (text .entry)) borrower (now (area .entry))) ⌝ }
+    ensures area { λ _. ⌜ now (area .exit) ≡ afterwards (now (area .entry)) (issueText (now (text .entry)) borrower (now (area .entry))) ⌝ }
+{
+    let found = admit(text, area);
+    let bytes = found.code.bytes;
+    let length = found.code.length;
+    let answer = found.answer;
+    match answer {
+        CodeAnswer::Accepted => change::issue(&bytes[0..length], borrower, area),
+        CodeAnswer::Refused(q, _) => Changed::Refused(q),
+    }
+}
+
+// Takes back the code that the text holds: 2, 1, 3 to 14, then 23, 22.
+pub fn take_back(text: &[u8], area: &mut [u8]) -> Changed
+    ensures answer { λ r. ⌜ r ≡ changedAs (returnText (now (text .entry)) (now (area .entry))) ⌝ }
+    ensures number { λ r. ⌜ changedNumber r ≡ numberOf (returnText (now (text .entry)) (now (area .entry))) ⌝ }
+    ensures area { λ _. ⌜ now (area .exit) ≡ afterwards (now (area .entry)) (returnText (now (text .entry)) (now (area .entry))) ⌝ }
+{
+    let found = admit(text, area);
+    let bytes = found.code.bytes;
+    let length = found.code.length;
+    let answer = found.answer;
+    match answer {
+        CodeAnswer::Accepted => change::take_back(&bytes[0..length], area),
+        CodeAnswer::Refused(q, _) => Changed::Refused(q),
+    }
+}
+
+// Who has the code that the text holds: 2, 1, 3 to 14, then 23, 22.
+pub fn ask(text: &[u8], area: &[u8]) -> Holder
+    ensures answer { λ r. ⌜ r ≡ holderAs (askText (now (text .entry)) (now (area .entry))) ⌝ }
+    ensures number { λ r. ⌜ holderNumber r ≡ numberOf (askText (now (text .entry)) (now (area .entry))) ⌝ }
+    ensures borrower { λ r. ⌜ holderBorrower r ≡ borrowerIn (askText (now (text .entry)) (now (area .entry))) ⌝ }
+{
+    let found = admit(text, area);
+    let bytes = found.code.bytes;
+    let length = found.code.length;
+    let answer = found.answer;
+    match answer {
+        CodeAnswer::Accepted => change::ask(&bytes[0..length], area),
+        CodeAnswer::Refused(q, _) => Holder::Refused(q),
+    }
+}

@@ -1,0 +1,18 @@
+// Whether an area is a register: 23 where it is not.
+ghost use mathlib.Core.Path.{_≡_};
+ghost use Rattle.loans.specs.Contents.{isRegister};
+use crate::places;
+use crate::twice;
+use loans::layout::REGISTER_LENGTH;
+
+pub(crate) fn is_register(area: &[u8]) -> bool
+    ensures { λ r. ⌜ r ≡ isRegister (now (area .entry)) ⌝ }
+{
+    if area.len() != REGISTER_LENGTH {
+        return false;
+    }
+    if places::are_places(area) {
+        return twice::all_distinct(area);
+    }
+    false
+}

@@ -1,0 +1,76 @@
+// One place: 48 bytes with a loan, or free.
+ghost use mathlib.Core.Path.{_≡_};
+ghost use mathlib.Core.Option.{some};
+ghost use Prim.Native.Nat.{_≤_, _<_};
+ghost use lib.ListN.{length};
+ghost use Rattle.iscc.specs.Digits.{allBelow};
+ghost use Rattle.loans.specs.Loan.{loanOf, oneCode};
+ghost use Rattle.loans.specs.Place.{placeBytes, isPlace};
+use iscc::code::LONGEST_CODE;
+use loans::layout::BORROWER_OFFSET;
+use loans::layout::CODE_OFFSET;
+use loans::layout::PLACE_LENGTH;
+use unit::reader::UnitRead;
+
+pub(crate) fn wide(x: u8) -> usize
+    ensures { λ r. ⌜ (r ≡ x) × (r < 256) ⌝ }
+{
+    x as usize
+}
+
+// Whether all bytes are zero. Only the largest is tested, so that no byte ends the loop and many go at a time.
+fn all_zero(bytes: &[u8]) -> bool
+    ensures { λ r. ⌜ r ≡ allBelow 1 (now (bytes .entry)) ⌝ }
+{
+    let mut most = 0;
+    let mut i = 0;
+    while i < bytes.len() {
+        let byte = bytes[i];
+        if most < byte {
+            most = byte;
+        }
+        i += 1;
+    }
+    most == 0
+}
+
+// Whether the bytes are exactly one permitted unit or composite.
+fn is_code(bytes: &[u8]) -> bool
+    ensures { λ r. ⌜ r ≡ oneCode (now (bytes .entry)) ⌝ }
+{
+    let answer = unit::one::read(bytes);
+    match answer {
+        UnitRead::Unit(_) => true,
+        UnitRead::Refused(_) => false,
+    }
+}
+
+// Whether 48 bytes are a place: free and zero, or a code of its length with zeros behind it up to the borrower.
+pub(crate) fn is_place(place: &[u8]) -> bool
+    requires { ⌜ length (now place) ≡ 48 ⌝ }
+    ensures { λ r. ⌜ r ≡ isPlace (now (place .entry)) ⌝ }
+{
+    let n = wide(place[0]);
+    if n == 0 {
+        return all_zero(&place[0..PLACE_LENGTH]);
+    }
+    if LONGEST_CODE < n {
+        return false;
+    }
+    if is_code(&place[CODE_OFFSET..CODE_OFFSET + n]) {
+        return all_zero(&place[CODE_OFFSET + n..BORROWER_OFFSET]);
+    }
+    false
+}
+
+// The place of a loan.
+pub(crate) fn place_of(code: &[u8], borrower: u32) -> [u8; 48]
+    requires { ⌜ length (now code) ≤ 42 ⌝ }
+    ensures { λ r. ⌜ r ≡ placeBytes (some (loanOf (now (code .entry)) borrower)) ⌝ }
+{
+    let mut place = [0u8; 48];
+    place[0] = code.len() as u8;
+    bytes::copy(code, &mut place[CODE_OFFSET..BORROWER_OFFSET]);
+    octets::number::write(borrower, &mut place[BORROWER_OFFSET..PLACE_LENGTH]);
+    place
+}

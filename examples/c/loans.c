@@ -1,0 +1,70 @@
+/*
+ * The loans register, as a counter keeps it: a code is issued, asked for, refused to a second
+ * borrower and taken back, typed in several ways. Every answer is told, a refusal with its number
+ * and a sentence. The exit status is 1 where an answer is not the one that is due.
+ *
+ *   ./install target/installed
+ *   export PKG_CONFIG_PATH=$PWD/target/installed/lib/pkgconfig
+ *   export LD_LIBRARY_PATH=$PWD/target/installed/lib
+ *   gcc examples/c/loans.c $(pkg-config --cflags --libs iscc) -o target/loans
+ *   target/loans
+ *
+ * Without installing, with the archive alone:
+ *
+ *   rt staticlib console
+ *   gcc -Iinclude examples/c/loans.c target/staticlib/libconsole.a -o target/loans
+ */
+#include "loans.h"
+
+#include <stdio.h>
+#include <string.h>
+
+/* The register lasts as long as its bytes. Static memory begins as zeros: nothing is out yet. */
+static uint8_t area[LOANS_REGISTER_AREA];
+
+/* Ends the line of a call: what was done, or why it was refused. */
+static void tell(uint32_t number, const char *done) {
+    if (number == ISCC_OK) printf("%s\n", done);
+    else printf("refused %u: %s\n", (unsigned)number, iscc_refusal_text(number));
+}
+
+static uint32_t issue(const char *typed, uint32_t borrower) {
+    const uint8_t *text = (const uint8_t *)typed;
+    uint32_t number = loans_issue(text, strlen(typed), borrower, area, sizeof area);
+    printf("issue %s to %u: ", typed, (unsigned)borrower);
+    tell(number, "done");
+    return number;
+}
+
+static uint32_t take_back(const char *typed) {
+    const uint8_t *text = (const uint8_t *)typed;
+    uint32_t number = loans_return(text, strlen(typed), area, sizeof area);
+    printf("return %s: ", typed);
+    tell(number, "done");
+    return number;
+}
+
+/* A borrower may be any number, 0 too: only the answer's own number says whether there is one. */
+static loans_holder ask(const char *typed) {
+    const uint8_t *text = (const uint8_t *)typed;
+    loans_holder holder = loans_ask(text, strlen(typed), area, sizeof area);
+    char who[32];
+    snprintf(who, sizeof who, "borrower %u", (unsigned)holder.borrower);
+    printf("ask %s: ", typed);
+    tell(holder.number, who);
+    return holder;
+}
+
+int main(void) {
+    /* One code: its units, the same in small letters the other way round, and the composite. */
+    const char *label = "GAAW2PRCRS5LNVZV-IAAUVACQKXE3V44W";
+    const char *typed = "iscc:iaauvacqkxe3v44w-gaaw2prcrs5lnvzv";
+    const char *composite = "ISCC:KUAG2PRCRS5LNVZVJKAFAVOJXLZZM";
+
+    if (issue(label, 1204) != ISCC_OK) return 1;
+    if (ask(typed).borrower != 1204) return 1;
+    if (issue(composite, 77) != ISCC_ALREADY_OUT) return 1;
+    if (take_back(typed) != ISCC_OK) return 1;
+    if (ask(label).number != ISCC_NOT_OUT) return 1;
+    return 0;
+}

@@ -1,0 +1,218 @@
+"""Tests of the loans register in Python, over the library of ISCC_LIBRARY or target/installed.
+
+    ./install target/installed
+    python3 examples/python/test_loans.py [TEST..]      as Calls.test_layout
+
+The last line is 'N passed, M failed', and the exit status is 0 only where nothing failed.
+"""
+
+from __future__ import annotations
+
+import mmap
+import pathlib
+import re
+import subprocess
+import sys
+import tempfile
+import threading
+import time
+import unittest
+from collections.abc import Callable
+
+sys.dont_write_bytecode = True
+
+import iscc  # noqa: E402
+import loans  # noqa: E402
+import test_iscc  # noqa: E402
+from test_iscc import HERE, TOP, TYPED, WRITTEN, Call, answer  # noqa: E402
+
+HEADER = (TOP / "include" / "loans.h").read_text("ascii")
+PLACES = 256
+
+
+def label(index: int) -> str:
+    """One of many codes, which differ in their last two bytes alone."""
+    return iscc.text(bytes.fromhex("3001") + index.to_bytes(8, "big"))
+
+
+def full() -> loans.Register:
+    """A register in which label(i) is out to borrower i, in every place."""
+    register = loans.Register()
+    for index in range(PLACES):
+        register.issue(label(index), index)
+    return register
+
+
+class Header(unittest.TestCase):
+    """The module says what the header says."""
+
+    def test_area(self) -> None:
+        found = re.search(r"^#define LOANS_REGISTER_AREA (\d+)$", HEADER, re.MULTILINE)
+        assert found
+        self.assertEqual(loans.AREA, int(found[1]))
+
+    def test_star(self) -> None:
+        given: dict[str, object] = {}
+        exec("from loans import *", given)
+        self.assertEqual(given.keys() - {"__builtins__"}, {"AREA", "Area", "Register"})
+
+
+class Calls(unittest.TestCase):
+    """The answers, and the bytes of the area."""
+
+    def refused(self, register: loans.Register, number: int, call: Call, *given: object) -> None:
+        before = bytes(register.area)
+        self.assertEqual(answer(call, *given), number, given)
+        self.assertEqual(bytes(register.area), before, given)
+
+    def test_one_code(self) -> None:
+        register = loans.Register()
+        for borrower in (0, 1204, 2**32 - 1):
+            register.issue(TYPED, borrower)
+            for text in (TYPED, TYPED.upper().encode(), WRITTEN):
+                self.assertEqual(register.ask(text), borrower)
+                self.refused(register, 20, register.issue, text, 7)
+            register.take_back(WRITTEN)
+            self.refused(register, 22, register.ask, TYPED)
+            self.refused(register, 22, register.take_back, TYPED)
+            self.assertEqual(bytes(register.area), bytes(loans.AREA))
+
+    def test_layout(self) -> None:
+        register = loans.Register()
+        register.issue(TYPED, 0x01020304)
+        code = iscc.code(TYPED)
+        place = bytes([len(code)]) + code.ljust(43, b"\0") + bytes([1, 2, 3, 4])
+        self.assertEqual(bytes(register.area), place.ljust(loans.AREA, b"\0"))
+
+    def test_full(self) -> None:
+        register = full()
+        self.assertEqual([register.ask(label(i)) for i in range(PLACES)], list(range(PLACES)))
+        self.refused(register, 21, register.issue, WRITTEN, 1)
+        self.refused(register, 20, register.issue, label(9), 1)
+        register.take_back(label(9))
+        register.issue(WRITTEN, 1)
+        self.assertEqual(register.ask(TYPED), 1)
+
+    def test_bad_texts(self) -> None:
+        register = loans.Register(bytearray(1))  # no register: the number of the text comes first
+        for text, number in (("", 1), (" " * 1025, 2), ("GAA0", 4), ("A\0", 4), ("\ud800", 4)):
+            self.refused(register, number, register.issue, text, 1)
+            self.refused(register, number, register.take_back, text)
+            self.refused(register, number, register.ask, text)
+
+    def test_not_a_register(self) -> None:
+        damaged = full().area
+        damaged[0] = 43
+        for area in (bytearray(), bytearray(loans.AREA - 1), bytearray(loans.AREA + 1), damaged):
+            register = loans.Register(area)
+            self.refused(register, 23, register.issue, TYPED, 1)
+            self.refused(register, 23, register.take_back, TYPED)
+            self.refused(register, 23, register.ask, TYPED)
+
+
+class Areas(unittest.TestCase):
+    """What may be a register, and what may be given to it."""
+
+    def test_in_place(self) -> None:
+        area = bytearray(loans.AREA + 96)
+        register = loans.Register(memoryview(area)[48:-48])
+        register.issue(TYPED, 5)
+        self.assertEqual(area[:49], bytes(48) + bytes([18]))
+        self.assertEqual(loans.Register(area[48:-48]).ask(TYPED), 5)
+
+    def test_in_a_file(self) -> None:
+        with tempfile.TemporaryFile() as file:
+            file.truncate(loans.AREA)
+            with mmap.mmap(file.fileno(), 0) as area:
+                loans.Register(area).issue(TYPED, 5)
+            file.seek(0)
+            self.assertEqual(loans.Register(bytearray(file.read())).ask(TYPED), 5)
+
+    def test_area_changed_by_its_owner(self) -> None:
+        area = bytearray(loans.AREA)
+        register = loans.Register(area)
+        try:
+            register.ask(TYPED)
+        except iscc.Refused:
+            area.append(0)  # the area is the caller's again, also while the refusal is told
+        self.assertEqual(answer(register.ask, TYPED), 23)
+        del area[-1]
+        self.assertEqual(answer(register.ask, TYPED), 22)
+
+    def test_other_areas(self) -> None:
+        make: Call = loans.Register
+        for name, area in {"bytes": bytes(loans.AREA), "str": "", "int": loans.AREA}.items():
+            said = f"^a register is a bytearray, a memoryview or an mmap, not {name}$"
+            self.assertRaisesRegex(TypeError, said, make, area)
+        register = loans.Register(memoryview(bytes(loans.AREA)))
+        self.assertRaisesRegex(TypeError, "not writable", register.issue, TYPED, 1)
+
+    def test_other_arguments(self) -> None:
+        register = loans.Register()
+        issue: Call = register.issue
+        for number in (-1, 2**32, 2**64):
+            said = f"^a borrower is from 0 to 4294967295, not {number}$"
+            self.assertRaisesRegex(ValueError, said, issue, TYPED, number)
+        self.assertRaisesRegex(TypeError, "^a borrower is an int, not str$", issue, TYPED, "5")
+        self.assertRaisesRegex(TypeError, "^a text is a str or bytes, not int$", issue, 5, 5)
+        self.assertEqual(register.area, bytearray(loans.AREA))
+
+
+class Threads(unittest.TestCase):
+    """Threads that share a register do not disturb each other."""
+
+    def at_once(self, work: Callable[[int], None]) -> None:
+        """Runs work(0) to work(7), each in a thread of its own."""
+        running = [threading.Thread(target=work, args=(own,)) for own in range(8)]
+        for thread in running:
+            thread.start()
+        for thread in running:
+            thread.join()
+
+    def test_one_register(self) -> None:
+        register, labels = loans.Register(), [label(index) for index in range(PLACES)]
+        start = threading.Barrier(8)
+
+        def work(own: int) -> None:
+            start.wait()
+            for index in range(own, PLACES, 8):
+                register.issue(labels[index], index)
+
+        self.at_once(work)
+        self.assertEqual([answer(register.ask, text) for text in labels], list(range(PLACES)))
+
+    def test_one_at_a_time(self) -> None:
+        register = loans.Register()
+        inside: list[object] = []
+        counts: list[int] = []
+
+        def slow(*given: object) -> None:
+            inside.append(given)
+            counts.append(len(inside))
+            time.sleep(0.01)
+            inside.pop()
+
+        self.at_once(lambda _: register._call(slow, TYPED))
+        self.assertEqual(counts, [1] * 8)
+
+
+class Library(unittest.TestCase):
+    """A library of an older version, which has no register."""
+
+    def test_without_register(self) -> None:
+        header = (TOP / "include" / "iscc.h").read_text("ascii")
+        names = set(re.findall(r"[ *](iscc_[a-z_]+)\(", header)) - {"iscc_version"}
+        lines = [f"int {name};" for name in sorted(names)]
+        lines.append("unsigned iscc_version(void) { return 256; }\n")
+        with tempfile.TemporaryDirectory(dir=TOP / "target") as folder:
+            source, older = pathlib.Path(folder, "older.c"), str(pathlib.Path(folder, "older.so"))
+            source.write_text("\n".join(lines))
+            subprocess.run(["gcc", "-shared", "-fPIC", str(source), "-o", older], check=True)
+            code = "import loans; loans.Register().ask('GAA')"
+            said = test_iscc.in_a_process(code, HERE, older)
+        self.assertIn(f"WrongLibrary: {older} has no loans register", said)
+        self.assertEqual(said.count("Traceback"), 1, said)
+
+
+if __name__ == "__main__":
+    sys.exit(test_iscc.main(sys.argv[1:], sys.modules[__name__]))

@@ -1,0 +1,348 @@
+/* The loans register as a counter uses it: blocks of console_test over loans.h. */
+#ifndef LOANS_BLOCKS_H
+#define LOANS_BLOCKS_H
+
+#include "expect.h"
+#include "loans.h"
+
+/* The bytes of a register, and of a place, once more: the header's numbers are held against these. */
+enum { REGISTER = 12288, PLACES = 256, PLACE = 48 };
+_Static_assert(LOANS_REGISTER_AREA == REGISTER && LOANS_PLACES == PLACES && LOANS_PLACE_BYTES == PLACE, "the layout");
+
+/* One code typed in three ways, and what a place holds of it. */
+#define UNITS "GAAW2PRCRS5LNVZV-IAAUVACQKXE3V44W"
+#define SMALL_UNITS " iscc:iaauvacqkxe3v44w-gaaw2-prcrs5lnvzv\n"
+#define COMPOSITE "ISCC:KUAG2PRCRS5LNVZVJKAFAVOJXLZZM"
+static const uint8_t composite_code[] = {0x55, 0x00, 0x6d, 0x3e, 0x22, 0x8c, 0xba, 0xb6, 0xd7,
+                                         0x35, 0x4a, 0x80, 0x50, 0x55, 0xc9, 0xba, 0xf3, 0x96};
+
+/* The shortest code, and the longest: 6 and 42 bytes. */
+#define SHORTEST "gaap6aaaae"
+static const uint8_t shortest_code[] = {0x30, 0x00, 0xff, 0x00, 0x00, 0x01};
+#define LONGEST "KADQAAAAAAAAAAAAAAAAAAAAAAAAAAAAAAAAAAAAAAAAAAAAAAAAAAAAAAAAAAAAAAAA"
+static const uint8_t longest_code[42] = {0x50, 0x07};
+
+typedef enum { ISSUE, RETURN, ASK } loans_call;
+
+static uint8_t *fresh_register(void) {
+    uint8_t *area = calloc(1, REGISTER);
+    if (area == NULL) abort();
+    return area;
+}
+
+/* A place as it must be: written here by the layout, not by a call. */
+static void put_place(uint8_t *area, size_t place, const uint8_t *code, uint8_t length, uint32_t borrower) {
+    uint8_t *bytes = area + place * PLACE;
+    memset(bytes, 0, PLACE);
+    bytes[0] = length;
+    memcpy(bytes + 1, code, length);
+    for (int i = 0; i < 4; i++) bytes[44 + i] = (uint8_t)(borrower >> (24 - 8 * i));
+}
+
+/* The bare call; an issue and a return tell no borrower. */
+static loans_holder answer_of(loans_call call, const uint8_t *text, size_t text_len, uint32_t borrower, uint8_t *area,
+                              size_t area_len) {
+    loans_holder answer = {0, 0};
+    if (call == ISSUE) answer.number = loans_issue(text, text_len, borrower, area, area_len);
+    if (call == RETURN) answer.number = loans_return(text, text_len, area, area_len);
+    if (call == ASK) answer = loans_ask(text, text_len, area, area_len);
+    return answer;
+}
+
+/* A call that must answer `due` and leave `after` in the area, each area being a heap block of just its length. */
+static void call_leaves(loans_call call, const void *text, size_t text_len, uint32_t borrower, uint8_t *area, size_t area_len,
+                        loans_holder due, const uint8_t *after, const char *of) {
+    const char *numbers[] = {"number of issue", "number of return", "number of ask"};
+    uint8_t *typed = copy_of(text, text_len);
+    loans_holder answer = answer_of(call, typed, text_len, borrower, area, area_len);
+    expect_same(numbers[call], answer.number, due.number, of);
+    expect_same("borrower", answer.borrower, due.borrower, of);
+    if (area_len > 0) expect(memcmp(area, after, area_len) == 0, "other bytes in the register", of);
+    if (text_len > 0) expect(memcmp(typed, text, text_len) == 0, "the text was changed", of);
+    free(typed);
+}
+
+/* A call that leaves every byte of the area. */
+static void call_keeps(loans_call call, const void *text, size_t text_len, uint8_t *area, size_t area_len, loans_holder due,
+                       const char *of) {
+    uint8_t *before = copy_of(area, area_len);
+    call_leaves(call, text, text_len, 0x5a5a5a5a, area, area_len, due, before, of);
+    free(before);
+}
+
+/* An issue that is accepted: it changes this place, and no other byte. */
+static void issue_takes(uint8_t *area, size_t place, const char *typed, uint32_t borrower, const uint8_t *code, uint8_t length) {
+    uint8_t *after = copy_of(area, REGISTER);
+    expect(all_are(area + place * PLACE, PLACE, 0), "the place is not free before", typed);
+    put_place(after, place, code, length, borrower);
+    call_leaves(ISSUE, typed, strlen(typed), borrower, area, REGISTER, (loans_holder){ISCC_OK, 0}, after, typed);
+    free(after);
+}
+
+static void return_frees(uint8_t *area, size_t place, const char *typed) {
+    uint8_t *after = copy_of(area, REGISTER);
+    memset(after + place * PLACE, 0, PLACE);
+    call_leaves(RETURN, typed, strlen(typed), 0, area, REGISTER, (loans_holder){ISCC_OK, 0}, after, typed);
+    free(after);
+}
+
+static void issue_refused(uint8_t *area, const char *typed, uint32_t number) {
+    call_keeps(ISSUE, typed, strlen(typed), area, REGISTER, (loans_holder){number, 0}, typed);
+}
+
+static void has(uint8_t *area, const char *typed, uint32_t borrower) {
+    call_keeps(ASK, typed, strlen(typed), area, REGISTER, (loans_holder){ISCC_OK, borrower}, typed);
+}
+
+static void not_out(uint8_t *area, const char *typed) {
+    call_keeps(RETURN, typed, strlen(typed), area, REGISTER, (loans_holder){ISCC_NOT_OUT, 0}, typed);
+    call_keeps(ASK, typed, strlen(typed), area, REGISTER, (loans_holder){ISCC_NOT_OUT, 0}, typed);
+}
+
+/* All three calls refuse with this number. */
+static void all_refuse(const void *text, size_t text_len, uint8_t *area, size_t area_len, uint32_t number, const char *of) {
+    for (loans_call call = ISSUE; call <= ASK; call++)
+        call_keeps(call, text, text_len, area, area_len, (loans_holder){number, 0}, of);
+}
+
+/* One loan from its issue to its return, each time typed another way. */
+static void loans_one_code(void) {
+    const uint32_t borrowers[] = {0, 1, 0x01020304, 0x80000000, 0xffffffff};
+    uint8_t *area = fresh_register();
+    for (size_t i = 0; i < sizeof borrowers / sizeof *borrowers; i++) {
+        not_out(area, COMPOSITE);
+        issue_takes(area, 0, UNITS, borrowers[i], composite_code, sizeof composite_code);
+        has(area, UNITS, borrowers[i]);
+        has(area, SMALL_UNITS, borrowers[i]);
+        has(area, COMPOSITE, borrowers[i]);
+        issue_refused(area, UNITS, ISCC_ALREADY_OUT);
+        issue_refused(area, SMALL_UNITS, ISCC_ALREADY_OUT);
+        not_out(area, "GAAW2PRCRS5LNVZV"); /* a unit of it is another code */
+        return_frees(area, 0, SMALL_UNITS);
+        not_out(area, UNITS);
+    }
+    free(area);
+}
+
+/* The whole register, byte for byte: the lowest place that is free, codes of the least and the greatest length. */
+static void loans_places(void) {
+    uint8_t *area = fresh_register();
+    issue_takes(area, 0, SHORTEST, 0x00010000, shortest_code, sizeof shortest_code);
+    issue_takes(area, 1, LONGEST, 0x00000100, longest_code, sizeof longest_code);
+    issue_takes(area, 2, COMPOSITE, 0x01000000, composite_code, sizeof composite_code);
+    return_frees(area, 1, LONGEST);
+    has(area, SHORTEST, 0x00010000);
+    has(area, UNITS, 0x01000000);
+    return_frees(area, 0, SHORTEST);
+    issue_takes(area, 0, LONGEST, 7, longest_code, sizeof longest_code);
+    issue_takes(area, 1, SHORTEST, 8, shortest_code, sizeof shortest_code);
+    has(area, LONGEST, 7);
+    free(area);
+}
+
+/* The code with this index of a row that differs in the last two bytes alone, and its text with a NUL behind. */
+static void code_of_row(size_t index, uint8_t code[10], char text[ISCC_TEXT_AREA + 1]) {
+    const uint8_t unit[10] = {0x30, 0x01};
+    memcpy(code, unit, sizeof unit);
+    code[8] = (uint8_t)(index >> 8);
+    code[9] = (uint8_t)index;
+    iscc_written answer = iscc_text(code, 10, (uint8_t *)text, ISCC_TEXT_AREA);
+    text[answer.length] = 0;
+}
+
+static void issue_row(uint8_t *area, size_t index, size_t place) {
+    uint8_t code[10];
+    char text[ISCC_TEXT_AREA + 1];
+    code_of_row(index, code, text);
+    issue_takes(area, place, text, (uint32_t)index, code, sizeof code);
+}
+
+/* All places, one code more, and room again once a code is back. */
+static void loans_full(void) {
+    const size_t back[] = {0, 100, PLACES - 1};
+    uint8_t *area = fresh_register(), code[10];
+    char text[ISCC_TEXT_AREA + 1];
+    for (size_t i = 0; i < PLACES; i++) issue_row(area, i, i);
+    for (size_t i = 0; i < sizeof back / sizeof *back; i++) {
+        issue_refused(area, COMPOSITE, ISCC_ALL_OUT);
+        not_out(area, COMPOSITE);
+        code_of_row(back[i], code, text);
+        issue_refused(area, text, ISCC_ALREADY_OUT);
+        has(area, text, (uint32_t)back[i]);
+        return_frees(area, back[i], text);
+        not_out(area, text);
+        issue_row(area, PLACES + i, back[i]);
+    }
+    free(area);
+}
+
+/* The text of a code's bytes. */
+static void text_of(const uint8_t *code, size_t length, char text[ISCC_TEXT_AREA + 1]) {
+    iscc_written written = iscc_text(code, length, (uint8_t *)text, ISCC_TEXT_AREA);
+    expect_same("number of text", written.number, ISCC_OK, "a code's text");
+    text[written.length] = '\0';
+}
+
+/* Two codes of the same bytes in another order are two codes: four of one body are exchanged with four of the other, at the
+ * same distance from a multiple of four in the place, so that no sum over words of four bytes tells them apart. */
+static void loans_alike(void) {
+    uint8_t *area = fresh_register(), other_code[sizeof composite_code];
+    char other[ISCC_TEXT_AREA + 1];
+    memcpy(other_code, composite_code, sizeof composite_code);
+    memcpy(other_code + 3, composite_code + 11, 4);
+    memcpy(other_code + 11, composite_code + 3, 4);
+    text_of(other_code, sizeof other_code, other);
+    issue_takes(area, 0, COMPOSITE, 7, composite_code, sizeof composite_code);
+    not_out(area, other);
+    issue_takes(area, 1, other, 8, other_code, sizeof other_code);
+    has(area, COMPOSITE, 7);
+    has(area, other, 8);
+    issue_refused(area, other, ISCC_ALREADY_OUT);
+    put_place(area, 255, other_code, sizeof other_code, 9);
+    call_keeps(ASK, COMPOSITE, strlen(COMPOSITE), area, REGISTER, (loans_holder){ISCC_NOT_REGISTER, 0}, "a code twice");
+    put_place(area, 255, shortest_code, sizeof shortest_code, 9);
+    return_frees(area, 0, COMPOSITE);
+    has(area, other, 8);
+    not_out(area, COMPOSITE);
+    free(area);
+}
+
+/* A text that intake refuses has intake's number, whether the area is a register or not. */
+static void loans_texts(void) {
+    const struct {
+        const char *typed;
+        uint32_t number;
+    } refused[] = {
+        {"", ISCC_EMPTY_TEXT},
+        {"iscc:-", ISCC_EMPTY_TEXT},
+        {"GAAW2PRCRS5LNVZ0", ISCC_BAD_CHARACTER},
+        {"A", ISCC_BAD_COUNT},
+        {"AB", ISCC_SPARE_BITS},
+        {"AA", ISCC_BAD_HEADER},
+        {"K4AA", ISCC_NOT_PERMITTED},
+        {"GAAW2PRC", ISCC_SHORT_BODY},
+        {"GAAW2PRCRS5LNVZV-MAAGZTFQTTVIZPJR", ISCC_NOT_JOINABLE},
+        {"GAAW2PRCRS5LNVZV-GAAW2PRCRS5LNVZV", ISCC_MAIN_TYPE_TWICE},
+        {"AAA6UO6XHYVVA3QA-GAAW2PRCRS5LNVZV", ISCC_LACKS_DATA_OR_INSTANCE},
+    };
+    char long_text[1025], long_run[81];
+    uint8_t *area = fresh_register(), *damaged = fresh_register();
+    memset(long_text, ' ', sizeof long_text);
+    memset(long_run, 'A', sizeof long_run);
+    damaged[0] = 1;
+    put_place(area, 0, composite_code, sizeof composite_code, 1);
+    for (size_t i = 0; i < sizeof refused / sizeof *refused; i++) {
+        size_t length = strlen(refused[i].typed);
+        all_refuse(refused[i].typed, length, area, REGISTER, refused[i].number, refused[i].typed);
+        all_refuse(refused[i].typed, length, damaged, REGISTER, refused[i].number, refused[i].typed);
+        all_refuse(refused[i].typed, length, NULL, 0, refused[i].number, refused[i].typed);
+    }
+    all_refuse(long_text, sizeof long_text, damaged, REGISTER, ISCC_LONG_TEXT, "long text");
+    all_refuse(long_run, sizeof long_run, damaged, REGISTER, ISCC_LONG_RUN, "long run");
+    free(area);
+    free(damaged);
+}
+
+/* Zeros are a register in one length alone. */
+static void loans_lengths(void) {
+    const size_t lengths[] = {1, PLACE, REGISTER - PLACE, REGISTER - 1, REGISTER + 1, REGISTER + PLACE, 2 * REGISTER};
+    for (size_t i = 0; i < sizeof lengths / sizeof *lengths; i++) {
+        uint8_t *area = calloc(1, lengths[i]);
+        if (area == NULL) abort();
+        all_refuse(COMPOSITE, strlen(COMPOSITE), area, lengths[i], ISCC_NOT_REGISTER, "another length");
+        free(area);
+    }
+    all_refuse(COMPOSITE, strlen(COMPOSITE), NULL, 0, ISCC_NOT_REGISTER, "null register");
+    all_refuse(NULL, 0, NULL, 0, ISCC_EMPTY_TEXT, "null text and register");
+}
+
+/* A register with the composite in place 0, the longest code in place 1, and nothing else. */
+static uint8_t *two_out(void) {
+    uint8_t *area = fresh_register();
+    put_place(area, 0, composite_code, sizeof composite_code, 1);
+    put_place(area, 1, longest_code, sizeof longest_code, 2);
+    return area;
+}
+
+/* What no call writes is not a register, for a code that is out and for one that is not. */
+static void not_a_register(uint8_t *area, const char *of) {
+    all_refuse(COMPOSITE, strlen(COMPOSITE), area, REGISTER, ISCC_NOT_REGISTER, of);
+    all_refuse(SHORTEST, strlen(SHORTEST), area, REGISTER, ISCC_NOT_REGISTER, of);
+}
+
+/* One byte at a time: of a used place, of one without fill bytes, and of a free one. */
+static void loans_damaged(void) {
+    const struct {
+        size_t offset;
+        uint8_t byte;
+        const char *what;
+    } damages[] = {
+        {0, 0, "length 0 before a code"},
+        {0, 17, "length one less"},
+        {0, 19, "length one more"},
+        {0, 43, "length 43"},
+        {0, 255, "length 255"},
+        {1, 0x75, "main type 7"},
+        {2, 0x01, "another composite"},
+        {19, 1, "first fill byte"},
+        {42, 1, "last fill byte"},
+        {43, 1, "zero byte"},
+        {PLACE + 43, 1, "zero byte right behind a code"},
+        {2 * PLACE, 1, "cut header"},
+        {2 * PLACE + 1, 1, "first byte behind length 0"},
+        {2 * PLACE + 43, 1, "zero byte of a free place"},
+        {2 * PLACE + 44, 1, "borrower of a free place"},
+        {REGISTER - PLACE, 5, "length of the last place"},
+        {REGISTER - 1, 1, "last byte"},
+    };
+    for (size_t i = 0; i < sizeof damages / sizeof *damages; i++) {
+        uint8_t *area = two_out();
+        area[damages[i].offset] = damages[i].byte;
+        not_a_register(area, damages[i].what);
+        free(area);
+    }
+}
+
+/* Places that are well formed and make no register: a list, and a code twice. */
+static void loans_wrong_codes(void) {
+    const uint8_t list[] = {0x30, 0x01, 0x6d, 0x3e, 0x22, 0x8c, 0xba, 0xb6, 0xd7, 0x35,
+                            0x40, 0x01, 0x4a, 0x80, 0x50, 0x55, 0xc9, 0xba, 0xf3, 0x96};
+    uint8_t *area = two_out();
+    put_place(area, PLACES - 1, list, sizeof list, 3);
+    not_a_register(area, "a list");
+    put_place(area, PLACES - 1, composite_code, sizeof composite_code, 3);
+    not_a_register(area, "a code twice, two borrowers");
+    put_place(area, PLACES - 1, longest_code, sizeof longest_code, 2);
+    not_a_register(area, "a code twice, one borrower");
+    free(area);
+}
+
+/* A register that no calls made, but could have: places between are free, and a length byte alone is a code of zeros. */
+static void loans_from_elsewhere(void) {
+    uint8_t *area = two_out();
+    area[5 * PLACE] = 6; /* 00 00 and a body of zeros: a META unit of 32 bits */
+    put_place(area, PLACES - 1, shortest_code, sizeof shortest_code, 9);
+    has(area, "AAAAAAAAAA", 0);
+    has(area, SHORTEST, 9);
+    return_frees(area, 5, "AAAAAAAAAA");
+    return_frees(area, PLACES - 1, SHORTEST);
+    issue_takes(area, 2, SHORTEST, 10, shortest_code, sizeof shortest_code);
+    free(area);
+}
+
+/* A question writes nothing, not even the bytes that are there: this register lies where nobody may write. It may also lie
+ * over its text: here the body of a code spells another one. */
+static void loans_only_read(void) {
+    static const uint8_t area[REGISTER] = {
+        18, 0x30, 0x03, 'G', 'A', 'A', 'P', '6', 'A', 'A', 'A', 'A', 'E', ' ', ' ', ' ', ' ', ' ', ' ',
+        [PLACE] = 6, 0x30, 0x00, 0xff, 0x00, 0x00, 0x01, [PLACE + 44] = 0, 0, 1, 2,
+    };
+    loans_holder answer = loans_ask((const uint8_t *)SHORTEST, strlen(SHORTEST), area, REGISTER);
+    expect_same("number", answer.number, ISCC_OK, "register that cannot be written");
+    expect_same("borrower", answer.borrower, 258, "register that cannot be written");
+    answer = loans_ask(area + 3, 16, area, REGISTER);
+    expect_same("number", answer.number, ISCC_OK, "text in the register");
+    expect_same("borrower", answer.borrower, 258, "text in the register");
+}
+
+#endif

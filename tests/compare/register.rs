@@ -1,0 +1,130 @@
+//! Sequences of calls on one register, from the empty one on: after each the answer and the whole area are those of the
+//! reference, and the answer is that of a plain map.
+
+use crate::random::Random;
+use crate::seen::Seen;
+use crate::{areas, codes, texts, MOST_DIFFERENCES};
+use harness::call::{Call, Request, Response};
+use harness::expected;
+use harness::library::{Case, Library};
+use harness::tally::Tally;
+use reference::doors::{self, LONGEST_CODE};
+use reference::refusal::{ALL_OUT, ALREADY_OUT, NOT_OUT};
+use reference::register::{LENGTH, PLACES};
+use std::collections::HashMap;
+use std::ops::Range;
+
+/// How many sequences there are for so many cases in all. Each has many calls, so under memcheck there are fewer.
+pub fn count(cases: usize, memcheck: bool) -> u64 {
+    cases.div_ceil(if memcheck { 5000 } else { 1000 }) as u64
+}
+
+/// Numbers that a sequence has to bring out for a call; the others come out by calls on one random area.
+fn own_numbers(call: Call) -> &'static [u32] {
+    match call {
+        Call::Issue => &[0, ALREADY_OUT, ALL_OUT],
+        _ => &[0, NOT_OUT],
+    }
+}
+
+/// The codes of one sequence and its calls by kind.
+struct Plan {
+    codes: Vec<Vec<u8>>,
+    calls: Vec<Call>,
+}
+
+/// A few codes again and again; in every tenth sequence more than a register holds, issued one after the other first.
+fn plan(random: &mut Random, number: u64) -> Plan {
+    let fills = number % 10 == 0;
+    let count = if fills { PLACES + 1 + random.below(8) } else { random.pick(&[1, 2, 4, 8, 20, 60]) };
+    let mut calls = if fills { vec![Call::Issue; count] } else { Vec::new() };
+    for _ in 0..2 + random.below(5) {
+        let often = random.pick(&Call::REGISTER);
+        calls.extend((0..20).map(|_| if random.percent(50) { often } else { random.pick(&Call::REGISTER) }));
+    }
+    Plan { codes: codes::different(random, count), calls }
+}
+
+/// The register as a plain map.
+type Map = HashMap<Vec<u8>, u32>;
+
+/// What the map answers to a call, and what it is then.
+fn by_map(map: &mut Map, request: &Request) -> Result<u32, u32> {
+    let code = doors::code(&request.first, LONGEST_CODE)?;
+    match request.call {
+        Call::Issue if map.contains_key(&code) => Err(ALREADY_OUT),
+        Call::Issue if map.len() == PLACES => Err(ALL_OUT),
+        Call::Issue => Ok(map.insert(code, request.borrower).unwrap_or(0)),
+        Call::TakeBack => map.remove(&code).map(|_| 0).ok_or(NOT_OUT),
+        _ => map.get(&code).copied().ok_or(NOT_OUT),
+    }
+}
+
+/// The two answers, as far as a map has one: the number, and the borrower of a question.
+fn agrees(map: Result<u32, u32>, due: &Response) -> bool {
+    let (number, borrower) = map.map_or_else(|number| (number, 0), |borrower| (0, borrower));
+    due.number == number && due.values[0] == u64::from(borrower)
+}
+
+/// Runs one sequence up to its first difference.
+fn run(library: &mut Library, seed: u64, case: &Case, seen: &mut [Seen; 3]) -> Result<(), String> {
+    let mut random = Random::of_case(seed, u64::MAX - 2, case.number);
+    let Plan { codes, calls } = plan(&mut random, case.number);
+    let (mut area, mut map) = (vec![0; LENGTH], Map::new());
+    for (index, &call) in calls.iter().enumerate() {
+        let any = random.below(codes.len());
+        let first = match index < codes.len() && codes.len() > PLACES {
+            true => texts::of_code(&mut random, &codes[index]),
+            false => texts::for_loan(&mut random, &codes[any]),
+        };
+        let borrower = if call == Call::Issue { areas::borrower(&mut random) } else { 0 };
+        let request = Request { first, second: area, borrower, ..Request::new(call) };
+        let due = expected::answer(&request);
+        if !agrees(by_map(&mut map, &request), &due) {
+            let again = library.again(case);
+            return Err(format!(" call {index}: a plain map answers otherwise than the reference\n  {request}\n  {again}"));
+        }
+        if let Some(difference) = library.differs(case, &request, &due, &crate::setting(&mut random)) {
+            return Err(format!(" call {index}:{difference}"));
+        }
+        let which = Call::REGISTER.iter().position(|&one| one == call).expect("a call on a register");
+        seen[which].count(due.number);
+        area = if call.changes() { due.written } else { request.second };
+    }
+    Ok(())
+}
+
+/// The numbers that hardly came out, a line for each call.
+fn hardly(seen: &[Seen; 3]) -> String {
+    let few = Call::REGISTER.into_iter().zip(seen).map(|(call, seen)| (call.name(), seen.few(own_numbers(call))));
+    few.filter(|(_, few)| !few.is_empty()).map(|(name, few)| format!("\n {name} hardly answers {few:?}")).collect()
+}
+
+/// What came out, a line for each call.
+fn counts(seen: &[Seen; 3]) -> String {
+    let shown =
+        |(call, seen): (Call, &Seen)| format!("\n {} {} times; by number {}", call.name(), seen.all(), seen.shown(call));
+    Call::REGISTER.into_iter().zip(seen).map(shown).collect()
+}
+
+/// Compares the sequences of a range; each that differs is told, with the command that runs it again.
+pub fn check(tally: &mut Tally, library: &mut Library, seed: u64, range: Range<u64>) {
+    let (mut seen, mut differences, mut sequences) = (Default::default(), Vec::new(), 0);
+    let is_one = range.end - range.start == 1;
+    for number in range {
+        sequences += 1;
+        let found = run(library, seed, &Case { of: "register", number }, &mut seen);
+        differences.extend(found.err().map(|difference| format!("\n case {number},{difference}")));
+        if differences.len() == MOST_DIFFERENCES {
+            differences.push("\n and the others were not run".to_string());
+            break;
+        }
+    }
+    let hardly = if is_one { String::new() } else { hardly(&seen) };
+    let detail = match (differences.is_empty(), hardly.is_empty()) {
+        (true, true) => format!("{sequences} sequences, no difference{}", counts(&seen)),
+        (true, false) => format!("{sequences} sequences{hardly}"),
+        (false, _) => format!("{sequences} sequences run{}", differences.concat()),
+    };
+    tally.check("compare register", differences.is_empty() && hardly.is_empty(), detail);
+}
