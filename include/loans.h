@@ -27,8 +27,8 @@
  *
  * Areas. As in iscc.h an area is a pointer and a length in bytes, and must be as long as stated.
  * For loans_issue and loans_return `text` must not overlap `area`; loans_ask only reads, so that
- * there the two may overlap. Beside this and the lock below nothing is taken on trust. A null pointer with length 0 is an
- * empty area: 1 as a text, 23 as a register.
+ * there the two may overlap. Beside this and the lock below nothing is taken on trust. A null
+ * pointer with length 0 is an empty area: 1 as a text, 23 as a register.
  *   - Text is bytes and keeps them. It needs no NUL at its end.
  *   - The register is read and written in place. An issue or a return that is accepted changes the
  *     bytes of one place and no other.

@@ -82,7 +82,7 @@ class Register:
         self._lock = threading.Lock()
 
     def issue(self, text: iscc.Text, borrower: int) -> None:
-        """Issues a code to a borrower, any number of 32 bits. Refused: intake's numbers, 23, 20, 21."""
+        """Issues a code to a borrower, a 32-bit number. Refused: intake's numbers, 23, 20, 21."""
         _check_borrower(borrower)
         _check_number(self._call(_library().loans_issue, text, borrower))
 
