@@ -1,15 +1,24 @@
 //! Both sides must answer alike, or their times say nothing: on every measured input, with the number that its row states; and
 //! on what is near the first input of a row: its beginnings, and each change of one byte. Calls on a register must agree on
-//! damaged ones too, and change no more than the place that is put back behind a measured call.
+//! damaged ones too, and change no more than the place that is put back behind a measured call. Logs are appended in areas
+//! of other lengths and at other positions too, and replayed where they are torn or a record stops them.
 
-use crate::registers::{Register, PLACE};
+use crate::logs::{self, Record};
+use crate::registers::{Register, PLACE, PLACES};
 use crate::rows::{Call, Loan, Row};
-use crate::{inputs, library, sides, Writer};
+use crate::{inputs, library, plain_append, sides, OnRegister, Writer, REPLAYS};
+use std::fmt::Debug;
 
 /// Inputs up to this length have their neighbours tried too.
 const SHORT: usize = 100;
 /// Too short for every code and text of a row that is accepted.
 const SHORT_AREA: usize = 9;
+/// So many records of a log are appended by themselves too. Codes of each length are among them.
+const RECORDS: usize = 64;
+/// How a replay ended.
+const RAN: u32 = 1;
+const TORN: u32 = 2;
+const STOPPED: u32 = 3;
 
 fn writing(calls: [Writer; 2], input: &[u8], area: usize) -> u32 {
     let [proved, plain] = calls.map(|call| {
@@ -32,24 +41,44 @@ fn measured(a: &[u8], b: &[u8]) -> u32 {
     answer.0
 }
 
-/// The number that both sides answer to a text, and the area that they leave.
-fn called(call: Loan, text: &[u8], area: &[u8]) -> (u32, Vec<u8>) {
-    let [proved, plain] = sides(call).map(|call| {
+/// What both sides answer to a text or a log, and the area that they leave.
+fn called<T: Debug + PartialEq>(sides: [OnRegister<T>; 2], input: &[u8], area: &[u8]) -> (T, Vec<u8>) {
+    let [proved, plain] = sides.map(|call| {
         let mut area = area.to_vec();
-        (call(text, &mut area), area)
+        (call(input, &mut area), area)
     });
-    assert_eq!(proved.0, plain.0, "on {text:02x?} and {area:02x?}");
-    assert!(proved.1 == plain.1, "other areas are left, on {text:02x?} and {area:02x?}");
-    (proved.0 .0, proved.1)
+    let start = &input[..input.len().min(SHORT)];
+    assert_eq!(proved.0, plain.0, "on {start:02x?} and {area:02x?}");
+    assert!(proved.1 == plain.1, "other areas are left, on {start:02x?} and {area:02x?}");
+    proved
 }
 
 /// The number that both sides answer to a text; they change nothing that is not put back.
 fn registered(call: Loan, text: &[u8], register: &Register) -> u32 {
-    let (number, area) = called(call, text, &register.area);
+    let (answer, area) = called(sides(call), text, &register.area);
     let mut left = register.clone();
     left.area = area;
     left.put_back();
     assert!(left.area == register.area, "more than a place is changed, on {text:02x?} and {:02x?}", register.area);
+    answer.0
+}
+
+/// The number and the position that both sides answer where they append records to a log, and the log then.
+fn appended(records: &[Record], position: usize, length: usize) -> ((u32, usize), Vec<u8>) {
+    let [proved, plain] = [library::append, plain_append].map(|append| {
+        let mut log = vec![0x5a; length];
+        (logs::append(records, &mut log, position, append), log)
+    });
+    let code = records[0].code;
+    assert_eq!(proved.0, plain.0, "at {position} of {length}, from {code:02x?} on");
+    assert!(proved.1 == plain.1, "other logs are left, at {position} of {length}, from {code:02x?} on");
+    proved
+}
+
+/// The number that both sides answer where they append the records of a log. What they write is this log.
+fn written_again(log: &[u8]) -> u32 {
+    let ((number, _), written) = appended(&logs::records(log), 0, log.len());
+    assert!(written == log, "another log is written");
     number
 }
 
@@ -64,6 +93,8 @@ fn number(row: &Row, case: usize, input: &[u8]) -> u32 {
         Call::Join => written([library::join, plain::join], row, input),
         Call::Split => row.number,
         Call::Loan(call) => registered(call, input, &row.registers[case]),
+        Call::Append => written_again(input),
+        Call::Replay => called(REPLAYS, input, &row.registers[case].area).0 .0,
         Call::Distance => {
             measured(&row.inputs[0], input);
             measured(input, &row.inputs[0])
@@ -104,21 +135,86 @@ fn damaged(area: &[u8], mut check: impl FnMut(&[u8])) {
     }
 }
 
+/// Areas that begin like this one, of other lengths.
+fn other_lengths(area: &[u8], mut check: impl FnMut(&[u8])) {
+    let longer = [area, &[0; PLACE]].concat();
+    for length in [0, PLACE, area.len() - PLACE, area.len() - 1, area.len() + 1, longer.len()] {
+        check(&longer[..length]);
+    }
+}
+
 /// Calls on the first register of a row: for each code that is out, and with the first text where it is damaged or has another
 /// length. A refused text is refused whatever the area.
 fn check_register(call: Loan, row: &Row) {
     let (text, area) = (&row.inputs[0], &row.registers[0].area);
     for place in area.chunks_exact(PLACE).filter(|place| place[0] != 0) {
-        called(call, &inputs::spelt(&place[1..=place[0] as usize]), area);
+        called(sides(call), &inputs::spelt(&place[1..=place[0] as usize]), area);
     }
     damaged(area, |area| {
-        called(call, text, area);
+        called(sides(call), text, area);
     });
-    let longer = [&area[..], &[0; PLACE]].concat();
-    for length in [0, PLACE, area.len() - PLACE, area.len() - 1, area.len() + 1, longer.len()] {
-        let number = |text: &[u8]| called(call, text, &longer[..length]).0;
-        assert_eq!([number(text), number(b"")], [23, 1], "{row}: on {length} bytes");
+    other_lengths(area, |area| {
+        let number = |text: &[u8]| called(sides(call), text, area).0 .0;
+        assert_eq!([number(text), number(b"")], [23, 1], "{row}: on {} bytes", area.len());
+    });
+}
+
+/// The first records of a row once more: in every area and at every position about as long as they are, and with other bytes
+/// as their codes.
+fn check_append(row: &Row) {
+    for record in logs::records(&row.inputs[0]).into_iter().take(RECORDS) {
+        let whole = appended(&[record], 0, 2 * SHORT).0 .1;
+        for length in 0..=whole + 2 {
+            for position in 0..=length + 2 {
+                let number = appended(&[record], position, length).0 .0;
+                assert_eq!(number == 0, position + whole <= length, "{row}: at {position} of {length}");
+            }
+        }
+        assert_eq!(appended(&[record], usize::MAX, 2 * SHORT).0, (15, usize::MAX), "{row}");
+        neighbours(record.code, |code| {
+            for (position, length, room) in [(SHORT, 2 * SHORT, 0), (SHORT, SHORT, 15), (SHORT + 1, SHORT, 15)] {
+                let number = appended(&[Record { code, ..record }], position, length).0 .0;
+                assert!([24, room].contains(&number), "{row}: {number} on {code:02x?}, at {position} of {length}");
+            }
+        });
     }
+}
+
+/// Those records of a log that a test takes, and no others.
+fn picked(log: &[u8], takes: impl Fn(&Record) -> bool) -> Vec<u8> {
+    let mut all = Vec::new();
+    let mut rest = log;
+    while let Some((record, behind)) = logs::first(rest) {
+        if takes(&logs::records(record)[0]) {
+            all.extend(record);
+        }
+        rest = behind;
+    }
+    all
+}
+
+/// Replays on the first register of a row: of logs near the beginning of the first one, of logs that a record stops, and of
+/// the beginning where the register is damaged or has another length.
+fn check_replay(row: &Row) {
+    let (log, area) = (&row.inputs[0], &row.registers[0].area);
+    let replayed = |log: &[u8]| called(REPLAYS, log, area).0;
+    let start = &log[..log.len().min(SHORT)];
+    neighbours(start, |log| {
+        replayed(log);
+    });
+    assert_eq!(replayed(log), (0, RAN, 0), "{row}: as it was made");
+    assert_eq!(replayed(&log[..log.len() - 1]).1, TORN, "{row}: without its last byte");
+    let twice = [&log[..], log].concat();
+    assert!(matches!(replayed(&twice), (20 | 22, STOPPED, _)), "{row}: twice");
+    if row.records > PLACES {
+        let issues = picked(log, |record| record.borrower.is_some());
+        let returns = picked(log, |record| record.borrower.is_none());
+        assert_eq!([issues, returns].map(|log| replayed(&log).0), [21, 22], "{row}: issues alone, and returns");
+    }
+    damaged(area, |area| {
+        called(REPLAYS, start, area);
+    });
+    other_lengths(area, |area| assert_eq!(called(REPLAYS, log, area).0, (23, 0, 0), "{row}: on {} bytes", area.len()));
 }
 
 pub fn check(row: &Row) {
@@ -131,7 +227,10 @@ pub fn check(row: &Row) {
             number(row, 0, input);
         });
     }
-    if let Call::Loan(call) = row.call {
-        check_register(call, row);
+    match row.call {
+        Call::Loan(call) => check_register(call, row),
+        Call::Append => check_append(row),
+        Call::Replay => check_replay(row),
+        _ => {}
     }
 }

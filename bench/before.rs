@@ -3,6 +3,7 @@
 
 mod entry;
 mod inputs;
+mod logs;
 #[allow(dead_code)]
 #[path = "../tests/compare/random.rs"]
 mod random;
@@ -11,6 +12,8 @@ mod revisions;
 mod rows;
 mod turns;
 
+use entry::{LogIssue, LogReturn};
+use logs::Record;
 use registers::{Register, BORROWER};
 use revisions::{Entries, Entry};
 use rows::Row;
@@ -22,6 +25,9 @@ const ROUNDS: usize = 250;
 /// Calls are doubled until they take longer than this, so that a turn takes some 300 microseconds.
 const TURN: Duration = Duration::from_micros(200);
 
+/// The records of the logs that are replayed: few, so that a turn is not much longer than others.
+const RECORDS: [usize; 2] = [1, 1_000];
+
 /// The entries of a row, before and after.
 type Sides = [Entry; 2];
 
@@ -31,13 +37,14 @@ enum Answer {
     Tested(u32),
     Measured((u32, u32, u32, f32)),
     Held((u32, u32)),
+    Replayed((u32, u32, usize)),
 }
 
 impl Answer {
     fn number(&self) -> u32 {
         match *self {
             Answer::Written((number, _)) | Answer::Tested(number) => number,
-            Answer::Measured((number, ..)) | Answer::Held((number, _)) => number,
+            Answer::Measured((number, ..)) | Answer::Held((number, _)) | Answer::Replayed((number, ..)) => number,
         }
     }
 }
@@ -52,6 +59,10 @@ fn name_left_out(rows: &[Row]) {
     }
 }
 
+fn writer(issue: LogIssue, take_back: LogReturn) -> impl Fn(&mut [u8], usize, &Record) -> (u32, usize) {
+    move |log, position, record| entry::append(issue, take_back, log, position, record)
+}
+
 fn answer(entry: Entry, row: &Row, case: usize) -> (Answer, Vec<u8>) {
     let input = &row.inputs[case];
     let mut area = row.registers.get(case).map_or_else(|| row.area(), |register| register.area.clone());
@@ -62,6 +73,10 @@ fn answer(entry: Entry, row: &Row, case: usize) -> (Answer, Vec<u8>) {
         Entry::Issue(entry) => Answer::Tested(entry::issue(entry, input, BORROWER, &mut area)),
         Entry::Return(entry) => Answer::Tested(entry::take_back(entry, input, &mut area)),
         Entry::Ask(entry) => Answer::Held(entry::ask(entry, input, &area)),
+        Entry::Append(issue, take_back) => {
+            Answer::Written(logs::append(&logs::records(input), &mut area, 0, writer(issue, take_back)))
+        }
+        Entry::Replay(entry) => Answer::Replayed(entry::replay(entry, input, &mut area)),
     };
     (answer, area)
 }
@@ -83,8 +98,10 @@ fn alike(row: &Row, sides: Sides) -> bool {
     })
 }
 
-/// What the calls of a row write to.
-struct Areas {
+/// What the calls of a row read and write beside its inputs.
+struct Areas<'a> {
+    /// Those of the first input, where the call appends.
+    records: Vec<Record<'a>>,
     /// Never cleared: each call writes over what the last one wrote.
     area: Vec<u8>,
     /// Each is put back behind a call.
@@ -92,7 +109,7 @@ struct Areas {
 }
 
 /// Calls on the inputs in turn.
-fn run(entry: Entry, row: &Row, Areas { area, registers }: &mut Areas, calls: usize) {
+fn run(entry: Entry, row: &Row, Areas { records, area, registers }: &mut Areas, calls: usize) {
     match entry {
         Entry::Writer(entry) => over(&row.inputs, calls, |input| entry::write(entry, input, area)),
         Entry::Test(entry) => over(&row.inputs, calls, |input| entry::test(entry, input)),
@@ -104,6 +121,8 @@ fn run(entry: Entry, row: &Row, Areas { area, registers }: &mut Areas, calls: us
             registers::over(&row.inputs, registers, calls, |text, area| entry::take_back(entry, text, area))
         }
         Entry::Ask(entry) => registers::over(&row.inputs, registers, calls, |text, area| entry::ask(entry, text, area)),
+        Entry::Append(issue, take_back) => logs::over(records, area, calls, writer(issue, take_back)),
+        Entry::Replay(entry) => registers::over(&row.inputs, registers, calls, |log, area| entry::replay(entry, log, area)),
     }
 }
 
@@ -115,13 +134,15 @@ fn fastest(times: &[f64], one_in: usize) -> f64 {
 
 fn measure(row: &Row, sides: Sides) {
     // The same areas for both sides, so that they differ in nothing but the entry.
-    let mut areas = Areas { area: row.area(), registers: row.registers.clone() };
+    let records = if let Entry::Append(..) = sides[0] { logs::records(&row.inputs[0]) } else { Vec::new() };
+    let mut areas = Areas { records, area: row.area(), registers: row.registers.clone() };
     let calls = calls_in(TURN, |calls| run(sides[0], row, &mut areas, calls));
     let mut times = in_turns(ROUNDS, [calls; 2], |side, calls| run(sides[side], row, &mut areas, calls));
     times.iter_mut().for_each(|side| side.sort_by(f64::total_cmp));
     let [before, after] = &times;
     let ratio = fastest(after, 4) / fastest(before, 4);
-    println!("{}\t{}\t{}\t{}\t{ratio}", row.call.name(), row.input, fastest(before, 50), fastest(after, 50));
+    let [before, after] = [before, after].map(|times| fastest(times, 50) / row.records as f64);
+    println!("{}\t{}\t{before}\t{after}\t{ratio}", row.call.name(), row.input);
 }
 
 fn main() {

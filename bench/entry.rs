@@ -1,5 +1,7 @@
 //! The kinds of C entries, and calls through them.
 
+use crate::logs::Record;
+
 #[repr(C)]
 pub struct Written {
     number: u32,
@@ -20,6 +22,13 @@ pub struct Holder {
     borrower: u32,
 }
 
+#[repr(C)]
+pub struct Replayed {
+    number: u32,
+    end: u32,
+    offset: usize,
+}
+
 /// Reads one area and writes another.
 pub type Writer = unsafe extern "C" fn(*const u8, usize, *mut u8, usize) -> Written;
 /// Reads one area.
@@ -33,6 +42,13 @@ pub type Issue = unsafe extern "C" fn(*const u8, usize, u32, *mut u8, usize) -> 
 pub type Return = unsafe extern "C" fn(*const u8, usize, *mut u8, usize) -> u32;
 /// Reads two areas: who has a code.
 pub type Ask = unsafe extern "C" fn(*const u8, usize, *const u8, usize) -> Holder;
+
+/// Writes one area at a position, reads another: the record of a code that goes out to a borrower.
+pub type LogIssue = unsafe extern "C" fn(*mut u8, usize, usize, *const u8, usize, u32) -> Written;
+/// Writes one area at a position, reads another: the record of a code that comes back.
+pub type LogReturn = unsafe extern "C" fn(*mut u8, usize, usize, *const u8, usize) -> Written;
+/// Reads one area, reads and writes another.
+pub type Replay = unsafe extern "C" fn(*const u8, usize, *mut u8, usize) -> Replayed;
 
 pub fn write(entry: Writer, bytes: &[u8], out: &mut [u8]) -> (u32, usize) {
     // Both areas are as long as said, and a shared and a unique borrow cannot overlap.
@@ -65,4 +81,20 @@ pub fn ask(entry: Ask, text: &[u8], area: &[u8]) -> (u32, u32) {
     // The areas are as long as said.
     let answer = unsafe { entry(text.as_ptr(), text.len(), area.as_ptr(), area.len()) };
     (answer.number, answer.borrower)
+}
+
+pub fn append(issue: LogIssue, take_back: LogReturn, log: &mut [u8], position: usize, record: &Record) -> (u32, usize) {
+    let code = record.code;
+    // As with write.
+    let answer = match record.borrower {
+        Some(borrower) => unsafe { issue(log.as_mut_ptr(), log.len(), position, code.as_ptr(), code.len(), borrower) },
+        None => unsafe { take_back(log.as_mut_ptr(), log.len(), position, code.as_ptr(), code.len()) },
+    };
+    (answer.number, answer.length)
+}
+
+pub fn replay(entry: Replay, log: &[u8], area: &mut [u8]) -> (u32, u32, usize) {
+    // As with write.
+    let answer = unsafe { entry(log.as_ptr(), log.len(), area.as_mut_ptr(), area.len()) };
+    (answer.number, answer.end, answer.offset)
 }

@@ -37,6 +37,16 @@ pub fn composite(random: &mut Random) -> Vec<u8> {
     [vec![0x50 | random.below(5) as u8, 7], random.bytes(40)].concat()
 }
 
+/// Headers and the bytes behind them: units of 32 and of 64 bits, composites of two to five units.
+const HEADS: [([u8; 2], usize); 6] =
+    [([0x30, 0], 4), ([0x40, 1], 8), ([0x55, 0], 16), ([0x56, 4], 24), ([0x50, 6], 32), ([0x50, 7], 40)];
+
+/// A code of any of six lengths, from 6 to 42 bytes.
+pub fn mixed(random: &mut Random) -> Vec<u8> {
+    let (head, body) = random.pick(&HEADS);
+    [head.to_vec(), random.bytes(body)].concat()
+}
+
 pub fn codes() -> Vec<Vec<u8>> {
     variants(composite)
 }

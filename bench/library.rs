@@ -1,6 +1,7 @@
 //! The measured entries of the proved libraries, with the same signatures as the plain ones.
 
-use crate::entry::{self, DistanceAnswer, Holder, Written};
+use crate::entry::{self, DistanceAnswer, Holder, Replayed, Written};
+use crate::logs::Record;
 
 extern "C" {
     fn iscc_intake(text: *const u8, text_len: usize, out: *mut u8, out_len: usize) -> Written;
@@ -12,6 +13,16 @@ extern "C" {
     fn loans_issue(text: *const u8, text_len: usize, borrower: u32, area: *mut u8, area_len: usize) -> u32;
     fn loans_return(text: *const u8, text_len: usize, area: *mut u8, area_len: usize) -> u32;
     fn loans_ask(text: *const u8, text_len: usize, area: *const u8, area_len: usize) -> Holder;
+    fn loans_log_issue(
+        log: *mut u8,
+        log_len: usize,
+        position: usize,
+        code: *const u8,
+        code_len: usize,
+        borrower: u32,
+    ) -> Written;
+    fn loans_log_return(log: *mut u8, log_len: usize, position: usize, code: *const u8, code_len: usize) -> Written;
+    fn loans_replay(log: *const u8, log_len: usize, area: *mut u8, area_len: usize) -> Replayed;
     fn probe_base32_read(text: *const u8, text_len: usize, out: *mut u8, out_len: usize) -> Written;
     fn probe_base32_write(bytes: *const u8, bytes_len: usize, out: *mut u8, out_len: usize) -> Written;
 }
@@ -51,4 +62,12 @@ pub fn take_back(text: &[u8], area: &mut [u8]) -> u32 {
 
 pub fn ask(text: &[u8], area: &[u8]) -> (u32, u32) {
     entry::ask(loans_ask, text, area)
+}
+
+pub fn append(log: &mut [u8], position: usize, record: &Record) -> (u32, usize) {
+    entry::append(loans_log_issue, loans_log_return, log, position, record)
+}
+
+pub fn replay(log: &[u8], area: &mut [u8]) -> (u32, u32, usize) {
+    entry::replay(loans_replay, log, area)
 }

@@ -5,6 +5,7 @@ mod entry;
 mod inputs;
 mod library;
 mod lines;
+mod logs;
 mod measure;
 #[allow(dead_code)]
 #[path = "../tests/compare/random.rs"]
@@ -13,17 +14,23 @@ mod registers;
 mod rows;
 mod turns;
 
+use logs::Record;
 use measure::{side_by_side, Figures};
 use registers::BORROWER;
 use rows::{Call, Loan, Row};
 use turns::over;
 
 type Writer = fn(&[u8], &mut [u8]) -> (u32, usize);
-/// A call on a register: its number, and the borrower where one is told.
-type OnRegister = fn(&[u8], &mut [u8]) -> (u32, u32);
+type OnRegister<T> = fn(&[u8], &mut [u8]) -> T;
 
-/// The proved and the plain side of a call on a register.
-fn sides(call: Loan) -> [OnRegister; 2] {
+/// The records of the logs that are replayed. The time of a single one is nearly that of the test for 23.
+const RECORDS: [usize; 4] = [1, 25_000, 50_000, 100_000];
+
+/// The proved and the plain side of a replay.
+const REPLAYS: [OnRegister<(u32, u32, usize)>; 2] = [library::replay, plain::replay];
+
+/// The proved and the plain side of a call on a register: its number, and the borrower where one is told.
+fn sides(call: Loan) -> [OnRegister<(u32, u32)>; 2] {
     match call {
         Loan::Issue => {
             [|text, area| (library::issue(text, BORROWER, area), 0), |text, area| (plain::issue(text, BORROWER, area), 0)]
@@ -54,7 +61,7 @@ fn distance(row: &Row) -> Figures {
     )
 }
 
-fn on_registers(row: &Row, [proved, plain]: [OnRegister; 2]) -> Figures {
+fn on_registers<T>(row: &Row, [proved, plain]: [OnRegister<T>; 2]) -> Figures {
     let (mut first, mut second) = (row.registers.clone(), row.registers.clone());
     side_by_side(
         |calls| registers::over(&row.inputs, &mut first, calls, proved),
@@ -62,11 +69,27 @@ fn on_registers(row: &Row, [proved, plain]: [OnRegister; 2]) -> Figures {
     )
 }
 
-/// What one call reads.
-fn bytes(row: &Row) -> usize {
-    let length = row.inputs[0].len();
+fn plain_append(log: &mut [u8], position: usize, record: &Record) -> (u32, usize) {
+    match record.borrower {
+        Some(borrower) => plain::log_issue(log, position, record.code, borrower),
+        None => plain::log_return(log, position, record.code),
+    }
+}
+
+fn append(row: &Row) -> Figures {
+    let records = logs::records(&row.inputs[0]);
+    let (mut first, mut second) = (row.area(), row.area());
+    side_by_side(
+        |times| logs::over(&records, &mut first, times, library::append),
+        |times| logs::over(&records, &mut second, times, plain_append),
+    )
+}
+
+/// What one call reads, or what a record has, by the mean over the inputs.
+fn bytes(row: &Row) -> f64 {
+    let length = row.inputs.iter().map(Vec::len).sum::<usize>() as f64 / (row.inputs.len() * row.records) as f64;
     match row.call {
-        Call::Distance => 2 * length,
+        Call::Distance => 2.0 * length,
         _ => length,
     }
 }
@@ -84,6 +107,8 @@ fn figures(row: &Row) -> Option<Figures> {
         Call::Split => return None,
         Call::Distance => distance(row),
         Call::Loan(call) => on_registers(row, sides(call)),
+        Call::Append => append(row),
+        Call::Replay => on_registers(row, REPLAYS),
     })
 }
 
@@ -92,16 +117,19 @@ fn header(names: &[&str]) {
     println!("{}|", "|---".repeat(names.len()));
 }
 
-const COLUMNS: [&str; 6] = ["call", "input", "proved, ns", "plain, ns", "proved / plain", "middle half"];
+const BY_CALL: [&str; 2] = ["proved, ns", "plain, ns"];
+const BY_RECORD: [&str; 2] = ["proved, ns a record", "plain, ns a record"];
 
-fn print(name: &str, rows: &[Row], by_byte: bool) {
+fn print(name: &str, rows: &[Row], times: [&str; 2], by_byte: bool) {
     println!("\n### {name}\n");
-    header(&[&COLUMNS[..], if by_byte { &["ns a byte"] } else { &[] }].concat());
+    let last: &[&str] = if by_byte { &["ns a byte"] } else { &[] };
+    header(&[&["call", "input"], &times[..], &["proved / plain", "middle half"], last].concat());
     for row in rows {
         let Some(Figures { proved, plain, ratio }) = figures(row) else { continue };
+        let [proved, plain] = [proved, plain].map(|time| time / row.records as f64);
         print!("| {} | {} | {proved:.1} | {plain:.1} | {ratio} |", row.call.name(), row.input);
         if by_byte {
-            print!(" {:.3} |", proved / bytes(row) as f64);
+            print!(" {:.3} |", proved / bytes(row));
         }
         println!();
     }
@@ -121,11 +149,12 @@ fn main() {
     if words == ["check"] {
         return;
     }
-    print("Codes and texts", &rows::doors(), false);
-    print("Refusals", &rows::refusals(), false);
-    print("Units", &rows::units(), false);
-    print("The register", &rows::register(), false);
-    print("Growth", &rows::growth(), true);
+    print("Codes and texts", &rows::doors(), BY_CALL, false);
+    print("Refusals", &rows::refusals(), BY_CALL, false);
+    print("Units", &rows::units(), BY_CALL, false);
+    print("The register", &rows::register(), BY_CALL, false);
+    print("The log", &rows::log(), BY_RECORD, true);
+    print("Growth", &rows::growth(), BY_CALL, true);
     if let [program, folder] = &words[..] {
         print_lines(program, folder);
     }

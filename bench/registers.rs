@@ -11,25 +11,32 @@ const REGISTERS: usize = 16;
 /// Whom a code is issued to.
 pub const BORROWER: u32 = 0x0102_0304;
 
-/// A register, and the one place that the measured call may change.
+/// A register, and the part of it that the measured call may change.
 #[derive(Clone)]
 pub struct Register {
     pub area: Vec<u8>,
-    /// Where the place starts, and its bytes as they were made.
+    /// Where the part starts, and its bytes as they were made.
     offset: usize,
-    place: [u8; PLACE],
+    part: Vec<u8>,
 }
 
 impl Register {
+    /// A call may change one place.
     fn new(area: Vec<u8>, place: usize) -> Register {
         let offset = PLACE * place;
-        let place = area[offset..offset + PLACE].try_into().unwrap();
-        Register { area, offset, place }
+        let part = area[offset..offset + PLACE].to_vec();
+        Register { area, offset, part }
+    }
+
+    /// A replay may change every place.
+    pub fn whole(area: Vec<u8>) -> Register {
+        let part = area.clone();
+        Register { area, offset: 0, part }
     }
 
     /// Undoes what the measured call changed.
     pub fn put_back(&mut self) {
-        self.area[self.offset..self.offset + PLACE].copy_from_slice(&self.place);
+        self.area[self.offset..self.offset + self.part.len()].copy_from_slice(&self.part);
     }
 }
 
@@ -40,6 +47,8 @@ pub enum Codes {
     Random,
     /// The same, alike but for the last four bytes.
     Alike,
+    /// Random units and composites of several lengths.
+    Mixed,
 }
 
 /// Which code a text holds.
@@ -49,23 +58,31 @@ pub enum Wanted {
     NotOut,
 }
 
+/// The next code that is none of these.
+pub fn another(held: &[Vec<u8>], mut next: impl FnMut() -> Vec<u8>) -> Vec<u8> {
+    loop {
+        let code = next();
+        if !held.contains(&code) {
+            return code;
+        }
+    }
+}
+
 /// So many codes and one more.
-fn distinct_codes(codes: Codes, out: usize, random: &mut Random) -> Vec<Vec<u8>> {
+pub fn distinct_codes(codes: Codes, out: usize, random: &mut Random) -> Vec<Vec<u8>> {
     let first = inputs::composite(random);
     let mut all = vec![first.clone()];
     while all.len() <= out {
-        let code = match codes {
+        all.push(another(&all, || match codes {
             Codes::Random => inputs::composite(random),
             Codes::Alike => [&first[..first.len() - 4], &random.bytes(4)].concat(),
-        };
-        if !all.contains(&code) {
-            all.push(code);
-        }
+            Codes::Mixed => inputs::mixed(random),
+        }));
     }
     all
 }
 
-fn area_of(codes: &[Vec<u8>], random: &mut Random) -> Vec<u8> {
+pub fn area_of(codes: &[Vec<u8>], random: &mut Random) -> Vec<u8> {
     let mut area = vec![0; PLACES * PLACE];
     for (place, code) in area.chunks_exact_mut(PLACE).zip(codes) {
         place[0] = code.len() as u8;

@@ -1,6 +1,6 @@
 //! The entries of both revisions. `bench/before` has named them before_NAME and after_NAME.
 
-use crate::entry::{Ask, Issue, Measure, Return, Test, Writer};
+use crate::entry::{Ask, Issue, LogIssue, LogReturn, Measure, Replay, Return, Test, Writer};
 use crate::rows::{Call, Loan};
 use std::arch::global_asm;
 
@@ -12,6 +12,8 @@ pub enum Entry {
     Issue(Issue),
     Return(Return),
     Ask(Ask),
+    Append(LogIssue, LogReturn),
+    Replay(Replay),
 }
 
 // A table of addresses for each revision. The names are weak: one that a revision lacks is a null address, which is None.
@@ -56,6 +58,9 @@ entries! {
     loans_issue: Issue,
     loans_return: Return,
     loans_ask: Ask,
+    loans_log_issue: LogIssue,
+    loans_log_return: LogReturn,
+    loans_replay: Replay,
 }
 
 extern "C" {
@@ -88,6 +93,8 @@ impl Entries {
             Call::Loan(Loan::Issue) => self.loans_issue.map(Entry::Issue),
             Call::Loan(Loan::Return) => self.loans_return.map(Entry::Return),
             Call::Loan(Loan::Ask) => self.loans_ask.map(Entry::Ask),
+            Call::Append => Some(Entry::Append(self.loans_log_issue?, self.loans_log_return?)),
+            Call::Replay => self.loans_replay.map(Entry::Replay),
         }
     }
 }

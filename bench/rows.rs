@@ -1,7 +1,8 @@
 //! The rows of the tables: a call, and what it is measured on.
 
-use crate::inputs;
+use crate::logs::{self, Kind};
 use crate::registers::{self, Codes, Register, Wanted, PLACES};
+use crate::{inputs, RECORDS};
 use std::fmt::{Display, Formatter, Result};
 
 #[derive(Clone, Copy)]
@@ -17,6 +18,9 @@ pub enum Call {
     /// To the first of the inputs.
     Distance,
     Loan(Loan),
+    /// All records of a log, one by one.
+    Append,
+    Replay,
 }
 
 /// The calls on a register.
@@ -35,11 +39,15 @@ pub struct Row {
     pub inputs: Vec<Vec<u8>>,
     /// One for each input, where the call is on a register.
     pub registers: Vec<Register>,
+    /// How many records an input has, where it is a log; else 1. Times are divided by it.
+    pub records: usize,
 }
 
 const KIB: usize = 1024;
 /// Codes that are out.
 const OUT: [usize; 5] = [0, 1, 16, 128, PLACES];
+/// Codes that are out while a log is replayed, about so many.
+const OUT_IN_REPLAY: [usize; 2] = [8, 200];
 const GROWTH: [usize; 5] = [64, KIB, 16 * KIB, 256 * KIB, KIB * KIB];
 
 impl Call {
@@ -57,6 +65,8 @@ impl Call {
             Call::Loan(Loan::Issue) => "issue",
             Call::Loan(Loan::Return) => "return",
             Call::Loan(Loan::Ask) => "ask",
+            Call::Append => "append",
+            Call::Replay => "replay",
         }
     }
 }
@@ -75,7 +85,7 @@ impl Display for Row {
 }
 
 fn row(call: Call, input: impl Into<String>, inputs: Vec<Vec<u8>>) -> Row {
-    Row { call, number: 0, input: input.into(), inputs, registers: Vec::new() }
+    Row { call, number: 0, input: input.into(), inputs, registers: Vec::new(), records: 1 }
 }
 
 /// A row whose inputs are refused; the number stands behind their name, in brackets.
@@ -180,6 +190,33 @@ pub fn register() -> Vec<Row> {
     rows
 }
 
+fn grouped(count: usize, name: &str) -> String {
+    match (count / 1000, count % 1000) {
+        (0, 1) => format!("1 {name}"),
+        (0, rest) => format!("{rest} {name}s"),
+        (thousands, rest) => format!("{thousands},{rest:03} {name}s"),
+    }
+}
+
+/// Logs of each count of records are replayed, and as many as the last of them appended.
+pub fn log() -> Vec<Row> {
+    let mut rows = Vec::new();
+    let most = RECORDS[RECORDS.len() - 1];
+    for (name, kinds) in
+        [("issue", &[Kind::Issue][..]), ("return", &[Kind::Return]), ("record", &[Kind::Issue, Kind::Return])]
+    {
+        rows.push(Row { records: most, ..row(Call::Append, grouped(most, name), vec![logs::listed(most, kinds)]) });
+    }
+    for out in OUT_IN_REPLAY {
+        for records in RECORDS {
+            let (inputs, registers) = logs::made(records, out);
+            let input = format!("{}, about {out} out", grouped(records, "record"));
+            rows.push(Row { registers, records, ..row(Call::Replay, input, inputs) });
+        }
+    }
+    rows
+}
+
 pub fn all() -> Vec<Row> {
-    [doors(), refusals(), units(), register(), growth()].into_iter().flatten().collect()
+    [doors(), refusals(), units(), register(), log(), growth()].into_iter().flatten().collect()
 }

@@ -1,7 +1,7 @@
 /*
  * The C interface of the console: both doors, the code of a text and the text of a code, join and
- * split, and the distance between two units. The loans register is in loans.h, which includes this
- * header.
+ * split, and the distance between two units. The loans register and its log are in loans.h, which
+ * includes this header.
  *
  * Linking. pkg-config knows where both headers and their libraries are installed:
  *
@@ -47,9 +47,9 @@ extern "C" {
  * ISCC_VERSION.
  */
 #define ISCC_VERSION_MAJOR 0
-#define ISCC_VERSION_MINOR 2
+#define ISCC_VERSION_MINOR 3
 #define ISCC_VERSION_PATCH 0
-#define ISCC_VERSION_TEXT "0.2.0"
+#define ISCC_VERSION_TEXT "0.3.0"
 #define ISCC_VERSION \
     (ISCC_VERSION_MAJOR * 65536 + ISCC_VERSION_MINOR * 256 + ISCC_VERSION_PATCH)
 
@@ -87,7 +87,8 @@ enum iscc_number {
     ISCC_ALREADY_OUT = 20,            /* the code is out already */
     ISCC_ALL_OUT = 21,                /* 256 other codes are out: no place is free */
     ISCC_NOT_OUT = 22,                /* a return or a question, and the code is not out */
-    ISCC_NOT_REGISTER = 23            /* the area is not a register */
+    ISCC_NOT_REGISTER = 23,           /* the area is not a register */
+    ISCC_NOT_RECORD = 24              /* a record or its code bytes are none for the log */
 };
 
 /*
@@ -124,6 +125,7 @@ ISCC_INLINE const char *iscc_refusal_text(uint32_t number) {
     case ISCC_ALL_OUT: return "No more can go out: 256 other codes are out.";
     case ISCC_NOT_OUT: return "This code is not out.";
     case ISCC_NOT_REGISTER: return "The register is damaged, or this is no register.";
+    case ISCC_NOT_RECORD: return "This is no record of the log.";
     default: return "There is no such number.";
     }
 }

@@ -1,6 +1,8 @@
 /*
  * The loans register: a code is issued to a borrower and taken back, and a question tells who has
- * it. The calls are in the same libraries as those of iscc.h, which says how to link them.
+ * it. And the pending issues log: issues and returns are written as records, from which another
+ * hall makes the register again. The calls are in the same libraries as those of iscc.h, which says
+ * how to link them.
  *
  * Register. The register is one area of LOANS_REGISTER_AREA bytes that the caller lends to every
  * call: 256 places of 48 bytes. A place holds one code with its borrower, or it is free.
@@ -22,21 +24,48 @@
  *     composite;
  *   - a fill byte behind a code, a byte 43, or any byte of a place of length 0 is not zero;
  *   - a code stands in two places.
- * No call turns a register into such an area. Every call tests the whole area, a question too: its
- * time grows with the codes that are out.
+ * No call turns a register into such an area. Every call on a register tests the whole area, a
+ * question too: its time grows with the codes that are out.
+ *
+ * Log. A log is records, one behind the other, from byte 0 on. A record is
+ *
+ *   byte 0            the tag: 1 for an issue, 2 for a return
+ *   bytes 1 and 2     the length of the body, high byte first
+ *   from byte 3 on    the body: for an issue the borrower in 4 bytes, high byte first, and then the
+ *                     code's bytes, as iscc_code writes them; for a return the code's bytes alone
+ *
+ * and at most LOANS_LOG_RECORD_MOST bytes long. A whole record of another tag, or whose body is
+ * none of these two, is 24. No byte depends on the machine here either.
+ *
+ * The writer, loans_log_issue and loans_log_return, writes into an area that the caller lends, at a
+ * position that the caller keeps: 0 for a new log, and from then on the end of the last record, so
+ * that the caller adds each answer's length to it. The log is the part up to the position. Behind
+ * it the area may hold anything, and none of that is to be handed to loans_replay: zeros there
+ * would be a record of tag 0, which is 24.
+ *
+ * The log is what was done: write a record for each issue and each return that the register
+ * accepted, in their order, and none for a refused one. Replayed onto a register like the one
+ * before, such a log makes the one after, byte for byte.
  *
  * Areas. As in iscc.h an area is a pointer and a length in bytes, and must be as long as stated.
- * For loans_issue and loans_return `text` must not overlap `area`; loans_ask only reads, so that
- * there the two may overlap. Beside this and the lock below nothing is taken on trust. A null
- * pointer with length 0 is an empty area: 1 as a text, 23 as a register.
- *   - Text is bytes and keeps them. It needs no NUL at its end.
+ * An area that a call may write to, the register or the writer's log, must not overlap the text,
+ * the code or the log that it reads; loans_ask only reads, so that there the two may overlap.
+ * Beside this and the lock below nothing is taken on trust, no position and no byte of a log. A
+ * null pointer with length 0 is an empty area: 1 as a text, 23 as a register, 24 as a code, and as
+ * a log one without records.
+ *   - Text is bytes and keeps them. It needs no NUL at its end. A code and a log that are read keep
+ *     their bytes too.
  *   - The register is read and written in place. An issue or a return that is accepted changes the
  *     bytes of one place and no other.
- *   - A refusal changes no byte, and neither does a question.
+ *   - The writer changes the bytes of its record and no other, and reads none of the log.
+ *   - A refusal changes no byte, and neither does a question. Of all calls loans_replay alone
+ *     leaves changes with a refusal: the records before the one that stops it stay applied.
  *
- * Threads. No memory is taken and nothing is kept between calls: all that lasts is in the register.
- * So several threads may call at once where each has a register of its own, or where all ask and
- * none issues or returns. Otherwise the caller holds a lock for the register over every call.
+ * Threads. No memory is taken and nothing is kept between calls: all that lasts is in the register
+ * and the log. So several threads may call at once where each has a register and a log of its own,
+ * or where all only read them: where all ask, or replay one log onto registers of their own.
+ * Otherwise the caller holds a lock for the register, and one for the log and its position, over
+ * every call; over a change and its record together, so that the log has them in their order.
  */
 #ifndef LOANS_H
 #define LOANS_H
@@ -54,6 +83,9 @@ extern "C" {
 #define LOANS_PLACES 256
 
 #define LOANS_PLACE_BYTES 48
+
+/* The longest record of a log in bytes: an issue of the longest code. */
+#define LOANS_LOG_RECORD_MOST 49
 
 /* ISCC_OK and the borrower, who may be 0; or a refusal and 0. */
 typedef struct {
@@ -85,6 +117,60 @@ uint32_t loans_return(const uint8_t *text, size_t text_len, uint8_t *area, size_
  * Refusals: as loans_return.
  */
 loans_holder loans_ask(const uint8_t *text, size_t text_len, const uint8_t *area, size_t area_len);
+
+/*
+ * Writes the record of an issue into the log, at the position. The answer's length is that of the
+ * record, 13 to LOANS_LOG_RECORD_MOST bytes; the next position is behind it.
+ *
+ * The code is bytes, as iscc_code writes them for a typed text.
+ *
+ * Refusals: 24 where the code's bytes are not exactly one permitted unit or composite; then 15
+ * where the area has no room for the record behind the position, or the position is past its end.
+ */
+iscc_written loans_log_issue(uint8_t *log, size_t log_len, size_t position, const uint8_t *code,
+                             size_t code_len, uint32_t borrower);
+
+/*
+ * Writes the record of a return into the log, at the position: 9 to 45 bytes.
+ *
+ * Refusals: as loans_log_issue.
+ */
+iscc_written loans_log_return(uint8_t *log, size_t log_len, size_t position, const uint8_t *code,
+                              size_t code_len);
+
+/* How a replay ended. */
+enum loans_end {
+    LOANS_NOT_BEGUN = 0, /* the area is not a register: 23, and nothing was read of the log */
+    LOANS_RAN = 1,       /* to the end of the log: every record is applied */
+    LOANS_TORN = 2,      /* the log is torn: its rest is no whole record; the others are applied */
+    LOANS_STOPPED = 3    /* a record stopped it: the number says why; those before are applied */
+};
+
+/*
+ * ISCC_OK or a refusal; how the replay ended, one of enum loans_end; and where in the log: for
+ * LOANS_TORN and LOANS_STOPPED the offset at which the torn record, or the one that stopped it,
+ * starts. Else the offset is 0.
+ */
+typedef struct {
+    uint32_t number;
+    uint32_t end;
+    size_t offset;
+} loans_replayed;
+
+/*
+ * Applies the records of a log to a register, from the left. `log` is the log alone, up to the
+ * writer's position.
+ *
+ * Wherever the log is torn off, the register afterwards is the one that the whole records before
+ * the tear give. A tear is no refusal: a last record that is not whole, whatever its tag, is not
+ * applied, and its offset is told. A cut between two records is no tear. Once the rest has come, it
+ * can be replayed from that offset on.
+ *
+ * Refusals: 23, before anything is read of the log; then, for each whole record from the left, 24;
+ * then 20 or 21 for an issue, as loans_issue, 22 for a return, as loans_return. A record that is
+ * refused stops the replay: it is not applied, and what is behind it is not read.
+ */
+loans_replayed loans_replay(const uint8_t *log, size_t log_len, uint8_t *area, size_t area_len);
 
 #ifdef __cplusplus
 }

@@ -6,10 +6,12 @@ mod distance;
 mod doors;
 mod items;
 mod join;
+mod log;
 mod register;
 
 pub use base32::{base32_read, base32_write};
 pub use distance::distance;
 pub use doors::{code, intake, strict, text};
 pub use join::join;
+pub use log::{log_issue, log_return, replay};
 pub use register::{ask, issue, take_back};

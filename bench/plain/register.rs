@@ -9,9 +9,9 @@ const PLACE: usize = 48;
 const ZERO: usize = 1 + LONGEST_CODE;
 const BORROWER: usize = ZERO + 1;
 
-type Place = [u8; PLACE];
+pub type Place = [u8; PLACE];
 
-fn is_code(bytes: &[u8]) -> bool {
+pub fn is_code(bytes: &[u8]) -> bool {
     items::read(bytes).is_ok_and(|item| item.used() == bytes.len())
 }
 
@@ -46,34 +46,43 @@ fn places_of(area: &[u8]) -> Result<&[Place], u32> {
     holds.then_some(places).ok_or(23)
 }
 
+/// The same for writing.
+pub fn places_in(area: &mut [u8]) -> Result<&mut [Place], u32> {
+    places_of(area)?;
+    Ok(area.as_chunks_mut().0)
+}
+
 fn place_of(places: &[Place], code: &Code) -> Option<usize> {
     places.iter().position(|place| place[0] as usize == code.length && place[1..ZERO] == code.bytes)
 }
 
-fn write(area: &mut [u8], at: usize, place: Place) {
-    area[PLACE * at..PLACE * (at + 1)].copy_from_slice(&place);
+/// The code goes to the borrower: 20, 21.
+pub fn put_out(places: &mut [Place], code: &Code, borrower: u32) -> Result<(), u32> {
+    if place_of(places, code).is_some() {
+        return Err(20);
+    }
+    let free = places.iter_mut().find(|place| place[0] == 0).ok_or(21u32)?;
+    free[0] = code.length as u8;
+    free[1..ZERO].copy_from_slice(&code.bytes);
+    free[BORROWER..].copy_from_slice(&borrower.to_be_bytes());
+    Ok(())
+}
+
+/// The code comes back: 22.
+pub fn put_back(places: &mut [Place], code: &Code) -> Result<(), u32> {
+    let at = place_of(places, code).ok_or(22u32)?;
+    places[at] = [0; PLACE];
+    Ok(())
 }
 
 fn issued(text: &[u8], borrower: u32, area: &mut [u8]) -> Result<(), u32> {
     let code = code_of(text)?;
-    let places = places_of(area)?;
-    if place_of(places, &code).is_some() {
-        return Err(20);
-    }
-    let free = places.iter().position(|place| place[0] == 0).ok_or(21u32)?;
-    let mut place = [0; PLACE];
-    place[0] = code.length as u8;
-    place[1..ZERO].copy_from_slice(&code.bytes);
-    place[BORROWER..].copy_from_slice(&borrower.to_be_bytes());
-    write(area, free, place);
-    Ok(())
+    put_out(places_in(area)?, &code, borrower)
 }
 
 fn taken_back(text: &[u8], area: &mut [u8]) -> Result<(), u32> {
     let code = code_of(text)?;
-    let at = place_of(places_of(area)?, &code).ok_or(22u32)?;
-    write(area, at, [0; PLACE]);
-    Ok(())
+    put_back(places_in(area)?, &code)
 }
 
 fn asked(text: &[u8], area: &[u8]) -> Result<u32, u32> {

@@ -85,6 +85,7 @@ class Refusal(enum.IntEnum):
     ALL_OUT = 21
     NOT_OUT = 22
     NOT_REGISTER = 23
+    NOT_RECORD = 24
 
 
 class Refused(ValueError):
@@ -209,7 +210,7 @@ def _written(call: Callable[..., _Written], data: bytes, area: int) -> bytes:
 
 
 def version() -> str:
-    """The version of the library, as '0.2.0'."""
+    """The version of the library, as '0.3.0'."""
     number = int(_library().iscc_version())
     return f"{number >> 16}.{number >> 8 & 255}.{number & 255}"
 

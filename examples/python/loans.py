@@ -1,4 +1,4 @@
-"""The loans register from Python: a code is issued to a borrower, asked for, and taken back.
+"""The loans register and its log from Python: a code is issued, asked for, and taken back.
 
     import loans
 
@@ -7,8 +7,18 @@
     register.ask("iscc:iaauvacqkxe3v44w-gaaw2prcrs5lnvzv")      # 1204
     register.take_back("ISCC:KUAG2PRCRS5LNVZVJKAFAVOJXLZZM")
 
-It stands on the module iscc, which finds the library and says what a text may be: a program needs
-both files. Where the library refuses, iscc.Refused is raised, and the register is as it was.
+A counter writes a record for each change that its register accepts; another hall replays the log:
+
+    log = loans.Log(bytearray(65536))
+    log.issue(iscc.code("GAAW2PRCRS5LNVZV-IAAUVACQKXE3V44W"), 1204)
+    log.take_back(iscc.code("ISCC:KUAG2PRCRS5LNVZVJKAFAVOJXLZZM"))
+
+    standby = loans.Register()
+    standby.replay(log.records()[:-1])      # 25: the record that starts there is torn
+
+It stands on the module iscc, which finds the library and says what a text or a code may be: a
+program needs both files. Where the library refuses, iscc.Refused is raised, and the register and
+the log are as they were; only a replay that is stopped keeps what it did before.
 """
 
 from __future__ import annotations
@@ -22,14 +32,38 @@ from typing import Any, Union
 
 import iscc
 
-__all__ = ["AREA", "Area", "Register"]
+__all__ = ["AREA", "RECORD_MOST", "Area", "Log", "Register", "Stopped"]
 
 AREA = 12288  # the length of a register in bytes
+RECORD_MOST = 49  # the longest record of a log in bytes
+_TORN, _STOPPED = 2, 3  # how a replay can end, in loans.h
 Area = Union[bytearray, memoryview, mmap.mmap]
 
 
 class _Holder(ctypes.Structure):
     _fields_ = [("number", ctypes.c_uint32), ("borrower", ctypes.c_uint32)]
+
+
+class _Replayed(ctypes.Structure):
+    _fields_ = [
+        ("number", ctypes.c_uint32),
+        ("end", ctypes.c_uint32),
+        ("offset", ctypes.c_size_t),
+    ]
+
+
+class Stopped(iscc.Refused):
+    """A record stops a replay: its `offset` in the log. Those before it stay applied."""
+
+    offset: int
+
+    def __init__(self, number: int, offset: int) -> None:
+        super().__init__(number)
+        self.args = (number, offset)
+        self.offset = offset
+
+    def __str__(self) -> str:
+        return f"the record at byte {self.offset} stops the replay: {super().__str__()}"
 
 
 def _declare(library: ctypes.CDLL) -> None:
@@ -39,6 +73,11 @@ def _declare(library: ctypes.CDLL) -> None:
     library.loans_return.argtypes = library.loans_ask.argtypes = text + area
     library.loans_issue.restype = library.loans_return.restype = ctypes.c_uint32
     library.loans_ask.restype = _Holder
+    library.loans_log_return.argtypes = [*area, ctypes.c_size_t, *text]
+    library.loans_log_issue.argtypes = [*area, ctypes.c_size_t, *text, ctypes.c_uint32]
+    library.loans_log_return.restype = library.loans_log_issue.restype = iscc._Written
+    library.loans_replay.argtypes = text + area
+    library.loans_replay.restype = _Replayed
 
 
 @functools.cache
@@ -47,16 +86,33 @@ def _library() -> ctypes.CDLL:
     try:
         _declare(library)
     except AttributeError as error:
-        raise iscc.WrongLibrary(f"{library._name} has no loans register: {error}") from None
+        said = f"{library._name} has no loans register or no log: {error}"
+        raise iscc.WrongLibrary(said) from None
     return library
 
 
+def _check_range(what: str, number: int, most: int) -> None:
+    # ctypes would cut a greater number to its last bits.
+    if not isinstance(number, int):
+        raise TypeError(f"a {what} is an int, not {type(number).__name__}")
+    if not 0 <= number <= most:
+        raise ValueError(f"a {what} is from 0 to {most}, not {number}")
+
+
 def _check_borrower(borrower: int) -> None:
-    # ctypes would cut a greater number to its last 32 bits.
-    if not isinstance(borrower, int):
-        raise TypeError(f"a borrower is an int, not {type(borrower).__name__}")
-    if not 0 <= borrower < 2**32:
-        raise ValueError(f"a borrower is from 0 to {2**32 - 1}, not {borrower}")
+    _check_range("borrower", borrower, 2**32 - 1)
+
+
+def _check_area(what: str, area: Area) -> None:
+    if not isinstance(area, (bytearray, memoryview, mmap.mmap)):
+        kind = type(area).__name__
+        raise TypeError(f"a {what} is a bytearray, a memoryview or an mmap, not {kind}")
+
+
+def _lent(area: Area) -> tuple[Any, int]:
+    # For one call alone, and measured anew: its owner may have changed it.
+    length = memoryview(area).nbytes
+    return (ctypes.c_char * length).from_buffer(area), length
 
 
 def _check_number(number: int) -> None:
@@ -75,32 +131,86 @@ class Register:
     area: Area
 
     def __init__(self, area: Area | None = None) -> None:
-        if not isinstance(area, (bytearray, memoryview, mmap.mmap, type(None))):
-            kind = type(area).__name__
-            raise TypeError(f"a register is a bytearray, a memoryview or an mmap, not {kind}")
         self.area = bytearray(AREA) if area is None else area
+        _check_area("register", self.area)
         self._lock = threading.Lock()
 
     def issue(self, text: iscc.Text, borrower: int) -> None:
         """Issues a code to a borrower, a 32-bit number. Refused: intake's numbers, 23, 20, 21."""
         _check_borrower(borrower)
-        _check_number(self._call(_library().loans_issue, text, borrower))
+        data = iscc._text_bytes(text)
+        _check_number(self._call(_library().loans_issue, data, borrower))
 
     def take_back(self, text: iscc.Text) -> None:
         """Takes a code back, whoever has it. Refused: intake's numbers, 23, 22 (not out)."""
-        _check_number(self._call(_library().loans_return, text))
+        _check_number(self._call(_library().loans_return, iscc._text_bytes(text)))
 
     def ask(self, text: iscc.Text) -> int:
         """The borrower who has a code. Refused: intake's numbers, 23, 22 (not out)."""
-        holder: _Holder = self._call(_library().loans_ask, text)
+        holder: _Holder = self._call(_library().loans_ask, iscc._text_bytes(text))
         _check_number(holder.number)
         return holder.borrower
 
-    def _call(self, call: Callable[..., Any], text: iscc.Text, *more: int) -> Any:
-        # The area is lent for this call alone, and measured anew: its owner may have changed it.
+    def replay(self, log: iscc.Bytes) -> int | None:
+        """Applies the records of a log, from the left.
+
+        None where it ran to the log's end. Where the log is torn, the offset of the record that is
+        not whole; those before it are applied. Where a record cannot be applied, Stopped is raised,
+        with 24, 20, 21 or 22, and those before it stay applied. Refused: 23, before all else.
+        """
+        data = _log_bytes(log)
+        answer: _Replayed = self._call(_library().loans_replay, data)
+        if answer.end == _STOPPED:
+            raise Stopped(answer.number, answer.offset)
+        _check_number(answer.number)
+        return answer.offset if answer.end == _TORN else None
+
+    def _call(self, call: Callable[..., Any], data: bytes, *more: int) -> Any:
         # The lock is needed, since ctypes lets other threads run during a call.
-        data = iscc._text_bytes(text)
         with self._lock:
-            length = memoryview(self.area).nbytes
-            lent = (ctypes.c_char * length).from_buffer(self.area)
-            return call(data, len(data), *more, lent, length)
+            return call(data, len(data), *more, *_lent(self.area))
+
+
+def _log_bytes(log: iscc.Bytes) -> bytes:
+    if isinstance(log, (bytes, bytearray, memoryview)):
+        return bytes(log)
+    raise TypeError(f"a log to be replayed is bytes, not {type(log).__name__}")
+
+
+class Log:
+    """The pending issues log in `area`, up to `position`: loans.h has the layout of its records.
+
+    Records are written in place, behind one another: into a bytearray, or an mmap of a file. What
+    the area holds behind the position is no part of the log. Threads that share a Log wait for each
+    other; its order is that of the changes only if a change and its record are under one lock.
+    """
+
+    area: Area
+    position: int
+
+    def __init__(self, area: Area, position: int = 0) -> None:
+        _check_area("log", area)
+        self.area = area
+        self.position = position
+        self._lock = threading.Lock()
+
+    def issue(self, code: iscc.Bytes, borrower: int) -> None:
+        """Writes that a code was issued to a borrower. Refused: 24, 15 (no room)."""
+        _check_borrower(borrower)
+        self._append(_library().loans_log_issue, code, borrower)
+
+    def take_back(self, code: iscc.Bytes) -> None:
+        """Writes that a code was taken back. Refused: 24, 15 (no room)."""
+        self._append(_library().loans_log_return, code)
+
+    def records(self) -> bytes:
+        """The log alone, as a register replays it."""
+        return bytes(memoryview(self.area)[: self.position])
+
+    def _append(self, call: Callable[..., Any], code: iscc.Bytes, *more: int) -> None:
+        data = iscc._code_bytes(code)
+        with self._lock:
+            _check_range("position", self.position, 2 ** (8 * ctypes.sizeof(ctypes.c_size_t)) - 1)
+            written = call(*_lent(self.area), self.position, data, len(data), *more)
+            _check_number(written.number)
+            self.position += written.length

@@ -1,4 +1,5 @@
-"""Tests of the loans register in Python, over the library of ISCC_LIBRARY or target/installed.
+"""Tests of the register and its log in Python, over the library of ISCC_LIBRARY or
+target/installed.
 
     ./install target/installed
     python3 examples/python/test_loans.py [TEST..]      as Calls.test_layout
@@ -10,6 +11,7 @@ from __future__ import annotations
 
 import mmap
 import pathlib
+import pickle
 import re
 import subprocess
 import sys
@@ -54,7 +56,14 @@ class Header(unittest.TestCase):
     def test_star(self) -> None:
         given: dict[str, object] = {}
         exec("from loans import *", given)
-        self.assertEqual(given.keys() - {"__builtins__"}, {"AREA", "Area", "Register"})
+        self.assertEqual(given.keys() - {"__builtins__"}, set(loans.__all__))
+
+    def test_log(self) -> None:
+        found = re.search(r"^#define LOANS_LOG_RECORD_MOST (\d+)$", HEADER, re.MULTILINE)
+        assert found
+        self.assertEqual(loans.RECORD_MOST, int(found[1]))
+        ends = dict(re.findall(r"^ +LOANS_(TORN|STOPPED) = (\d)", HEADER, re.MULTILINE))
+        self.assertEqual(ends, {"TORN": str(loans._TORN), "STOPPED": str(loans._STOPPED)})
 
 
 class Calls(unittest.TestCase):
@@ -158,6 +167,118 @@ class Areas(unittest.TestCase):
         self.assertEqual(register.area, bytearray(loans.AREA))
 
 
+class Log(unittest.TestCase):
+    """The records, and what a replay makes of them."""
+
+    def setUp(self) -> None:
+        self.code = iscc.code(TYPED)
+        self.log = loans.Log(bytearray(b"\xee" * 46))
+
+    def written(self) -> bytes:
+        """The specification's log: the code goes to borrower 258 and comes back."""
+        self.log.issue(self.code, 258)
+        self.log.take_back(self.code)
+        return self.log.records()
+
+    def test_records(self) -> None:
+        issue = bytes.fromhex("01 0016 00000102") + self.code
+        self.assertEqual(self.written(), issue + bytes.fromhex("02 0012") + self.code)
+        self.assertEqual(self.log.position, 46)
+        self.assertEqual(bytes(self.log.area), self.log.records())
+
+    def test_refused(self) -> None:
+        before = b"\xee" * 46
+        for code, number in ((b"", 24), (self.code + b"\0", 24), (self.code[:-1], 24)):
+            self.assertEqual(answer(self.log.take_back, code), number)
+            self.assertEqual(answer(self.log.issue, code, 1), number)
+        for position in (22, 46, 47, 2**64 - 1):
+            log = loans.Log(bytearray(before), position)
+            self.assertEqual(answer(log.issue, self.code, 1), 15)
+            self.assertEqual((log.position, bytes(log.area)), (position, before))
+        self.assertEqual((self.log.position, bytes(self.log.area)), (0, before))
+
+    def test_every_cut(self) -> None:
+        records, fresh = self.written(), bytes(loans.AREA)
+        issued = loans.Register()
+        issued.issue(TYPED, 258)
+        for cut in range(47):
+            register = loans.Register()
+            torn = None if cut in (0, 25, 46) else 0 if cut < 25 else 25
+            self.assertEqual(register.replay(records[:cut]), torn, cut)
+            due = bytes(issued.area) if 25 <= cut < 46 else fresh
+            self.assertEqual(bytes(register.area), due, cut)
+
+    def test_live_run(self) -> None:
+        live, log = loans.Register(), loans.Log(bytearray(PLACES * loans.RECORD_MOST))
+        for index in range(100):
+            live.issue(label(index), index)
+            log.issue(iscc.code(label(index)), index)
+            if index % 3 == 0:
+                live.take_back(label(index // 2 * 2))
+                log.take_back(iscc.code(label(index // 2 * 2)))
+                live.issue(label(index // 2 * 2), index)
+                log.issue(iscc.code(label(index // 2 * 2)), index)
+        standby = loans.Register()
+        self.assertIsNone(standby.replay(log.records()))
+        self.assertEqual(standby.area, live.area)
+
+    def stops(self, register: loans.Register, log: bytes, number: int, offset: int) -> None:
+        with self.assertRaises(loans.Stopped) as caught:
+            register.replay(log)
+        self.assertEqual((caught.exception.number, caught.exception.offset), (number, offset))
+        said = f"the record at byte {offset} stops the replay: {iscc.Refused(number)}"
+        self.assertEqual(str(caught.exception), said)
+
+    def test_stopped(self) -> None:
+        records = self.written()
+        issue, back = records[:25], records[25:]
+        register = loans.Register()
+        self.stops(register, issue + issue + back, 20, 25)
+        self.assertEqual(register.ask(TYPED), 258)
+        self.stops(register, back + back + issue, 22, 21)
+        self.stops(register, bytes(3) + issue, 24, 0)
+        self.assertEqual(register.area, bytearray(loans.AREA))
+        everything = full()
+        self.stops(everything, issue, 21, 0)
+        self.assertEqual(everything.area, full().area)
+
+    def test_pickled(self) -> None:
+        stopped = pickle.loads(pickle.dumps(loans.Stopped(22, 21)))
+        self.assertEqual((stopped.number, stopped.offset), (22, 21))
+
+    def test_not_a_register(self) -> None:
+        for log in (b"", bytes(3), self.written()):
+            register = loans.Register(bytearray(loans.AREA + 1))
+            self.assertEqual(answer(register.replay, log), 23)
+            self.assertEqual(register.area, bytearray(loans.AREA + 1))
+
+    def test_in_a_file(self) -> None:
+        with tempfile.TemporaryFile() as file:
+            file.truncate(100)
+            with mmap.mmap(file.fileno(), 0) as area:
+                log = loans.Log(area)
+                log.issue(self.code, 5)
+                file.seek(0)
+                self.assertEqual(file.read(25), log.records())
+            file.seek(0)
+            register = loans.Register()
+            self.assertIsNone(register.replay(file.read(25)))
+            self.assertEqual(register.ask(TYPED), 5)
+
+    def test_other_arguments(self) -> None:
+        make: Call = loans.Log
+        said = "^a log is a bytearray, a memoryview or an mmap, not bytes$"
+        self.assertRaisesRegex(TypeError, said, make, bytes(100))
+        issue: Call = self.log.issue
+        self.assertRaisesRegex(TypeError, "^a code is bytes, not str; code", issue, TYPED, 5)
+        self.assertRaisesRegex(ValueError, "^a borrower is from 0 to ", issue, self.code, 2**32)
+        for position in (-1, 2**64):
+            back: Call = loans.Log(bytearray(100), position).take_back
+            self.assertRaisesRegex(ValueError, "^a position is from 0 to ", back, self.code)
+        replay: Call = loans.Register().replay
+        self.assertRaisesRegex(TypeError, "^a log to be replayed is bytes, not str$", replay, "")
+
+
 class Threads(unittest.TestCase):
     """Threads that share a register do not disturb each other."""
 
@@ -192,8 +313,22 @@ class Threads(unittest.TestCase):
             time.sleep(0.01)
             inside.pop()
 
-        self.at_once(lambda _: register._call(slow, TYPED))
+        self.at_once(lambda _: register._call(slow, TYPED.encode()))
         self.assertEqual(counts, [1] * 8)
+
+    def test_one_log(self) -> None:
+        log, start = loans.Log(bytearray(17 * PLACES)), threading.Barrier(8)
+        codes = [iscc.code(label(index)) for index in range(PLACES)]
+
+        def work(own: int) -> None:
+            start.wait()
+            for index in range(own, PLACES, 8):
+                log.issue(codes[index], index)
+
+        self.at_once(work)
+        register = loans.Register()
+        self.assertIsNone(register.replay(log.records()))
+        self.assertEqual([register.ask(label(i)) for i in range(PLACES)], list(range(PLACES)))
 
 
 class Library(unittest.TestCase):
@@ -210,7 +345,7 @@ class Library(unittest.TestCase):
             subprocess.run(["gcc", "-shared", "-fPIC", str(source), "-o", older], check=True)
             code = "import loans; loans.Register().ask('GAA')"
             said = test_iscc.in_a_process(code, HERE, older)
-        self.assertIn(f"WrongLibrary: {older} has no loans register", said)
+        self.assertIn(f"WrongLibrary: {older} has no loans register or no log", said)
         self.assertEqual(said.count("Traceback"), 1, said)
 
 

@@ -10,6 +10,7 @@
 #include "expect.h"
 #include "iscc.h"
 #include "loans_blocks.h"
+#include "log_blocks.h"
 
 #include <inttypes.h>
 #include <signal.h>
@@ -292,6 +293,15 @@ static const struct {
     {"loans_wrong_codes", loans_wrong_codes},
     {"loans_from_elsewhere", loans_from_elsewhere},
     {"loans_only_read", loans_only_read},
+    {"log_records", log_records},
+    {"log_codes", log_codes},
+    {"log_room", log_room},
+    {"log_every_cut", log_every_cut},
+    {"log_stops", log_stops},
+    {"log_no_records", log_no_records},
+    {"log_full", log_full},
+    {"log_not_a_register", log_not_a_register},
+    {"log_only_read", log_only_read},
 };
 
 static int usage(void) {

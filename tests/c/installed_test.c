@@ -2,7 +2,7 @@
  * What a program sees of an installed library, in C and in C++: prints the version, then each
  * number with its sentence. The exit status is 1 where the header's version is not the library's, a
  * sentence could not be shown to a person, or it is not the one that stands here, or the register
- * does not answer.
+ * or its log does not answer.
  */
 #include <loans.h>
 
@@ -37,9 +37,10 @@ static const char *const due[] = {
     "No more can go out: 256 other codes are out.",
     "This code is not out.",
     "The register is damaged, or this is no register.",
+    "This is no record of the log.",
     "There is no such number.",
 };
-typedef char one_for_each[sizeof due / sizeof due[0] == ISCC_NOT_REGISTER + 2 ? 1 : -1];
+typedef char one_for_each[sizeof due / sizeof due[0] == ISCC_NOT_RECORD + 2 ? 1 : -1];
 
 static void expect(int holds, const char *what, uint32_t number) {
     if (holds) return;
@@ -85,11 +86,25 @@ static void check_register(void) {
     expect(loans_return(text, 10, area, sizeof area) == ISCC_OK, "not taken back", 5);
 }
 
+static void check_log(void) {
+    static uint8_t area[LOANS_REGISTER_AREA];
+    static const uint8_t code[] = {0x30, 0, 0, 0, 0, 0};
+    uint8_t log[2 * LOANS_LOG_RECORD_MOST];
+    size_t first = loans_log_issue(log, sizeof log, 0, code, sizeof code, 5).length;
+    size_t second = loans_log_return(log, sizeof log, first, code, sizeof code).length;
+    loans_replayed answer = loans_replay(log, first + second - 1, area, sizeof area);
+    expect(first == 13 && second == 9, "other records", 5);
+    expect(answer.number == ISCC_OK && answer.end == LOANS_TORN, "no tear", answer.end);
+    expect(answer.offset == first, "another offset", (uint32_t)answer.offset);
+    expect(area[0] == sizeof code && area[47] == 5, "not replayed", 5);
+}
+
 int main(void) {
-    const uint32_t unknown = ISCC_NOT_REGISTER + 1;
+    const uint32_t unknown = ISCC_NOT_RECORD + 1;
     uint32_t number;
     check_version();
     check_register();
+    check_log();
     for (number = ISCC_OK; number <= unknown; number++) check_words(number);
     expect(strcmp(iscc_refusal_text(0xFFFFFFFFu), iscc_refusal_text(unknown)) == 0,
            "another unknown number has other words", 0xFFFFFFFFu);

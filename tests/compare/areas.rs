@@ -1,7 +1,7 @@
 //! Random registers with used places anywhere, and areas that are none.
 
-use crate::codes;
 use crate::random::Random;
+use crate::{codes, records, texts};
 use harness::call::{Call, Request};
 use reference::register::{place_of, BORROWER, CODE, LENGTH, PLACE, PLACES, ZERO};
 
@@ -11,15 +11,27 @@ pub fn borrower(random: &mut Random) -> u32 {
     random.pick(&[any, any, any, 0, 1, 255, 256, 1 << 31, u32::MAX])
 }
 
+/// A register, and codes of which so many as are out come first.
+pub struct Filled {
+    pub area: Vec<u8>,
+    pub codes: Vec<Vec<u8>>,
+    pub used: usize,
+}
+
 /// A register of random codes: in the first places, in the last ones, or anywhere. The codes that are out come first in the
 /// list, then a few others.
-fn register(random: &mut Random) -> (Vec<u8>, Vec<Vec<u8>>, usize) {
+fn register(random: &mut Random) -> Filled {
     let used = match random.below(10) {
         0..=6 => random.below(9),
         7 => random.below(PLACES),
         8 => PLACES - random.below(4),
         _ => PLACES,
     };
+    register_of(random, used)
+}
+
+/// The same with so many codes out.
+pub fn register_of(random: &mut Random, used: usize) -> Filled {
     let codes = codes::different(random, used + 4);
     let mut places: Vec<usize> = (0..PLACES).collect();
     match random.below(4) {
@@ -32,21 +44,24 @@ fn register(random: &mut Random) -> (Vec<u8>, Vec<Vec<u8>>, usize) {
         let borrower = borrower(random);
         bytes_of(&mut area, place).copy_from_slice(&place_of(code, borrower));
     }
-    (area, codes, used)
+    Filled { area, codes, used }
 }
 
 /// A call on a register or on a damaged one, mostly about a code that is out or could be.
 pub fn request(random: &mut Random, call: Call) -> Request {
-    let (mut area, codes, used) = register(random);
+    let Filled { mut area, codes, used } = register(random);
     if random.percent(40) {
         damage(random, &mut area);
+    }
+    if call == Call::Replay {
+        return Request { first: records::log(random, &codes, used), second: area, ..Request::new(call) };
     }
     let code = match random.percent(50) && used > 0 {
         true => &codes[random.below(used)],
         false => &codes[used + random.below(codes.len() - used)],
     };
     let borrower = if call == Call::Issue { borrower(random) } else { 0 };
-    Request { first: crate::texts::for_loan(random, code), second: area, borrower, ..Request::new(call) }
+    Request { first: texts::for_loan(random, code), second: area, borrower, ..Request::new(call) }
 }
 
 fn bytes_of(area: &mut [u8], place: usize) -> &mut [u8] {
@@ -86,7 +101,7 @@ fn free_place(random: &mut Random, area: &mut [u8]) -> usize {
 }
 
 /// One fault, of each kind that makes an area no register. A few of them leave a register, only another one.
-fn damage(random: &mut Random, area: &mut Vec<u8>) {
+pub fn damage(random: &mut Random, area: &mut Vec<u8>) {
     match random.below(12) {
         0 => other_length(random, area),
         1 => code_twice(random, area),

@@ -1,7 +1,7 @@
 //! One random request for each call.
 
 use crate::random::Random;
-use crate::{areas, codes, texts};
+use crate::{areas, codes, records, texts};
 use harness::call::{Call, Request};
 use harness::expected;
 
@@ -26,7 +26,8 @@ pub fn request(random: &mut Random, call: Call) -> Request {
         Call::UnitWrite => (request.header, request.second) = header_and_body(random),
         Call::Join => request.first = if random.percent(2) { codes::long_list(random) } else { codes::list(random) },
         Call::Split => request.first = composite_bytes(random),
-        Call::Issue | Call::TakeBack | Call::Ask => return areas::request(random, call),
+        Call::Issue | Call::TakeBack | Call::Ask | Call::Replay => return areas::request(random, call),
+        Call::LogIssue | Call::LogReturn => return records::append(random, call),
     }
     request.area = area(random, &request);
     request
@@ -111,7 +112,7 @@ fn header_and_body(random: &mut Random) -> ([u32; 4], Vec<u8>) {
 }
 
 /// Mostly one unit or composite; else with a byte changed, cut or behind it, or any items.
-fn one_code(random: &mut Random) -> Vec<u8> {
+pub fn one_code(random: &mut Random) -> Vec<u8> {
     let mut bytes = match random.below(10) {
         0..=4 => codes::composite(random),
         5..=8 => codes::unit(random),

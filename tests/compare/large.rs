@@ -3,7 +3,7 @@
 use crate::random::Random;
 use crate::{codes, texts};
 use harness::call::{Call, Request};
-use reference::{base32, register};
+use reference::{base32, log, register};
 
 const MEBIBYTE: usize = 1 << 20;
 /// The longest area of these requests, and of any other case.
@@ -16,7 +16,7 @@ fn list(random: &mut Random, last: Vec<u8>) -> Vec<u8> {
 }
 
 /// How many requests there are.
-pub const COUNT: u64 = 27;
+pub const COUNT: u64 = 35;
 
 pub fn requests(random: &mut Random) -> Vec<Request> {
     let mut requests = Vec::new();
@@ -46,10 +46,28 @@ pub fn requests(random: &mut Random) -> Vec<Request> {
         requests.push(on_register(call, vec![b'-'; MEBIBYTE], register::LENGTH));
         requests.push(on_register(call, typed.clone(), MEBIBYTE));
     }
+    requests.extend(on_log(random));
+    requests
+}
+
+/// Logs of a mebibyte, of one code that comes and goes, of zeros and of the longest records; and records far behind, or of
+/// far too long a code.
+fn on_log(random: &mut Random) -> Vec<Request> {
+    let code = [vec![0x50, 7], random.bytes(40)].concat();
+    let pair = [log::issue_record(&code, 7), log::return_record(&code)].concat();
+    let longest = log::record(log::RETURN, &random.bytes(65_535));
+    let logs = [pair.repeat(MEBIBYTE / pair.len()), vec![0; MEBIBYTE], longest.repeat(16)];
+    let mut requests: Vec<Request> = logs.into_iter().map(|log| on_register(Call::Replay, log, register::LENGTH)).collect();
+    requests.push(on_register(Call::Replay, pair, MEBIBYTE));
+    for call in [Call::LogIssue, Call::LogReturn] {
+        let append = |first, position| Request { first, second: vec![0; MEBIBYTE], position, ..Request::new(call) };
+        requests.push(append(code.clone(), MEBIBYTE - 49));
+        requests.push(append(vec![0; MEBIBYTE], 0));
+    }
     requests
 }
 
 /// A call on an area of zeros.
-fn on_register(call: Call, text: Vec<u8>, length: usize) -> Request {
-    Request { first: text, second: vec![0; length], ..Request::new(call) }
+fn on_register(call: Call, first: Vec<u8>, length: usize) -> Request {
+    Request { first, second: vec![0; length], ..Request::new(call) }
 }

@@ -5,12 +5,14 @@ mod cases;
 mod codes;
 mod large;
 mod lines;
+mod log;
 mod random;
+mod records;
 mod register;
 mod seen;
 mod texts;
 
-use harness::call::{Call, Request};
+use harness::call::{Call, Request, Response};
 use harness::expected;
 use harness::fence::Side;
 use harness::library::{Case, Library, Setting};
@@ -24,15 +26,15 @@ use std::process::ExitCode;
 
 const USAGE: &str = "usage: compare [--seed N] [--cases N] [--lines PROGRAM] [--only CALL CASE] [--memcheck]
   --seed N          the seed of the cases (24138)
-  --cases N         how many cases in all (1000000); those on a register come on top
+  --cases N         how many cases in all (1000000); those on a register or a log come on top
   --lines PROGRAM   the line program; without it no lines are compared
-  --only CALL CASE  one case of one call, or of large, register or lines, counted from 0
+  --only CALL CASE  one case of one call, or of large, register, log or lines, counted from 0
   --memcheck        areas are heap blocks of just their length, for a run by tests/memcheck";
 
 /// A call with so many differences is left there.
 const MOST_DIFFERENCES: usize = 3;
 
-/// The part of all cases that goes to a call, in hundredths; calls on a register come on top.
+/// The part of all cases that goes to a call, in hundredths; calls on a register or a log come on top.
 fn share(call: Call) -> usize {
     match call {
         Call::Intake => 24,
@@ -45,6 +47,7 @@ fn share(call: Call) -> usize {
         Call::HeaderWrite | Call::Base32Read => 4,
         Call::Base32Write => 2,
         Call::Issue | Call::TakeBack | Call::Ask => 2,
+        Call::LogIssue | Call::LogReturn | Call::Replay => 2,
     }
 }
 
@@ -101,10 +104,10 @@ fn fault(options: &Options) -> Option<String> {
         "lines" if case >= lines::INPUTS => Some(format!("there are {} inputs of lines, counted from 0", lines::INPUTS)),
         "large" if case >= large::COUNT => Some(format!("there are {} large inputs, counted from 0", large::COUNT)),
         "lines" | "large" => None,
-        "register" if case < u64::MAX => None,
+        "register" | "log" if case < u64::MAX => None,
         _ if case == u64::MAX => Some("--only wants a smaller number".to_string()),
         _ if Call::ALL.iter().any(|call| call.name() == name) => None,
-        _ => Some(format!("no call is called '{name}'; calls: {calls}, and large, register, lines")),
+        _ => Some(format!("no call is called '{name}'; calls: {calls}, and large, register, log, lines")),
     }
 }
 
@@ -124,6 +127,9 @@ fn main() -> ExitCode {
     }
     if let Some(range) = range(&options, "register", register::count(options.cases, options.memcheck)) {
         register::check(&mut tally, &mut library, options.seed, range);
+    }
+    if let Some(range) = range(&options, "log", log::count(options.cases, options.memcheck)) {
+        log::check(&mut tally, &mut library, options.seed, range);
     }
     match (range(&options, "lines", lines::INPUTS), &options.lines) {
         (Some(range), Some(program)) => lines::check(&mut tally, program, options.seed, range, &options.again),
@@ -147,7 +153,7 @@ fn compare(library: &mut Library, seed: u64, call: Call, index: usize, range: Ra
         let mut random = Random::of_case(seed, index as u64, number);
         let request = cases::request(&mut random, call);
         match one(library, &Case { of: call.name(), number }, &request, &setting(&mut random)) {
-            Ok(answer) => outcome.seen.count(answer),
+            Ok(due) => outcome.seen.count(call, &due),
             Err(difference) => outcome.differences.push(difference),
         }
         outcome.cases += 1;
@@ -183,11 +189,11 @@ fn setting(random: &mut Random) -> Setting {
     Setting { side, null: random.percent(50), filling: random.bytes(length) }
 }
 
-/// The number of the answer that the reference and the library agree on, or the case with both answers.
-fn one(library: &mut Library, case: &Case, request: &Request, setting: &Setting) -> Result<u32, String> {
+/// The answer that the reference and the library agree on, or the case with both answers.
+fn one(library: &mut Library, case: &Case, request: &Request, setting: &Setting) -> Result<Response, String> {
     let due = expected::answer(request);
     match library.differs(case, request, &due, setting) {
-        None => Ok(due.number),
+        None => Ok(due),
         Some(difference) => Err(format!("\n case {}:{difference}", case.number)),
     }
 }
@@ -197,9 +203,9 @@ fn report(tally: &mut Tally, call: Call, outcome: &Outcome) {
     if !outcome.differences.is_empty() {
         return tally.check(&name, false, format!("{} cases run{}", outcome.cases, outcome.differences.concat()));
     }
-    let few = outcome.seen.few(call.numbers());
+    let few = outcome.seen.few(call, call.numbers());
     if !few.is_empty() && outcome.cases > 1 {
-        return tally.check(&name, false, format!("the cases hardly reach {few:?}"));
+        return tally.check(&name, false, format!("the cases hardly reach {}", few.join(", ")));
     }
     tally.check(&name, true, format!("{} cases, no difference; by number {}", outcome.cases, outcome.seen.shown(call)));
 }

@@ -88,7 +88,7 @@ fn run(library: &mut Library, seed: u64, case: &Case, seen: &mut [Seen; 3]) -> R
             return Err(format!(" call {index}:{difference}"));
         }
         let which = Call::REGISTER.iter().position(|&one| one == call).expect("a call on a register");
-        seen[which].count(due.number);
+        seen[which].count(call, &due);
         area = if call.changes() { due.written } else { request.second };
     }
     Ok(())
@@ -96,8 +96,10 @@ fn run(library: &mut Library, seed: u64, case: &Case, seen: &mut [Seen; 3]) -> R
 
 /// The numbers that hardly came out, a line for each call.
 fn hardly(seen: &[Seen; 3]) -> String {
-    let few = Call::REGISTER.into_iter().zip(seen).map(|(call, seen)| (call.name(), seen.few(own_numbers(call))));
-    few.filter(|(_, few)| !few.is_empty()).map(|(name, few)| format!("\n {name} hardly answers {few:?}")).collect()
+    let few = Call::REGISTER.into_iter().zip(seen).map(|(call, seen)| (call.name(), seen.few(call, own_numbers(call))));
+    few.filter(|(_, few)| !few.is_empty())
+        .map(|(name, few)| format!("\n {name} hardly answers {}", few.join(", ")))
+        .collect()
 }
 
 /// What came out, a line for each call.

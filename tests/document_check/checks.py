@@ -121,7 +121,7 @@ def names_under(folder: str, index: Index) -> set[str]:
 
 
 # The crate that a page speaks of if it is not iscc, as docs/TRACE.md says.
-HOMES = {"docs/trace/register.md": "loans"}
+HOMES = {"docs/trace/register.md": "loans", "docs/trace/log.md": "loans"}
 
 
 def check_homes(document: Document, index: Index, tally: Tally) -> None:
@@ -141,6 +141,10 @@ PROMISES = {
     "crates/iscc/specs/Demands.antt": (r"Demand[123]\.", 41),
     "crates/loans/specs/Promises.antt": (r"\w+\.", 20),
     "crates/loans/specs/Good.antt": (r"Sound\.", 4),
+    "crates/loans/specs/LogPromises.antt": (r"\w+\.", 16),
+    "crates/loans/specs/Tears.antt": (r"(Tears|TornOff)\.", 6),
+    "crates/loans/specs/LogOrder.antt": (r"StopTold\.", 5),
+    "crates/loans/specs/Writer.antt": (r"Appended\.", 5),
 }
 
 

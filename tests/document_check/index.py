@@ -101,7 +101,7 @@ RT_ITEM = re.compile(
     r'^( *)(?:pub(?:\(crate\))? )?(?:extern "C" )?(fn|struct|enum|const|impl|mod) (\w+)'
 )
 RT_MEMBER = re.compile(r"^    (?:pub(?:\(crate\))? )?(\w+)(?::|,|\(| \{)")
-RT_SIGNATURE = re.compile(r"\bfn (\w+)\s*\(([^)]*)\)")
+RT_SIGNATURE = re.compile(r"\bfn (\w+)(?:<[^>]*>)?\s*\(([^)]*)\)")
 
 
 def index_rattle(prefix: str, text: str, index: Index) -> None:

@@ -1,4 +1,4 @@
-//! A register's area in few words.
+//! The area of a register or of a log in few words.
 
 use crate::hex;
 
@@ -14,7 +14,7 @@ pub fn hash(area: &[u8]) -> String {
     format!("{hash:016x}")
 }
 
-/// Its length, and each place that is not all zeros by its offset, without the zeros at its end.
+/// A register's length, and each place that is not all zeros by its offset, without the zeros at its end.
 pub fn shown(area: &[u8]) -> String {
     let used = area.chunks(PLACE).enumerate().filter_map(|(place, bytes)| {
         let last = bytes.iter().rposition(|&byte| byte != 0)?;
@@ -26,9 +26,15 @@ pub fn shown(area: &[u8]) -> String {
     format!("{}[{}{behind}]", area.len(), used[..used.len() - more].join(","))
 }
 
-/// The first place that is not as it is due, whole.
-pub fn difference(due: &[u8], found: &[u8]) -> Option<String> {
+/// The first place of a register that is not as it is due, whole.
+pub fn place_difference(due: &[u8], found: &[u8]) -> Option<String> {
     let mut places = due.chunks(PLACE).zip(found.chunks(PLACE)).enumerate();
     let (place, (due, found)) = places.find(|(_, (due, found))| due != found)?;
     Some(format!("first in place {place}: expected {}, found {}", hex::encode(due), hex::encode(found)))
+}
+
+/// The first byte of a log that is not as it is due.
+pub fn byte_difference(due: &[u8], found: &[u8]) -> Option<String> {
+    let offset = due.iter().zip(found).position(|(due, found)| due != found)?;
+    Some(format!("first at offset {offset}: expected {:02x}, found {:02x}", due[offset], found[offset]))
 }

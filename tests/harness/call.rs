@@ -21,10 +21,13 @@ pub enum Call {
     Issue,
     TakeBack,
     Ask,
+    LogIssue,
+    LogReturn,
+    Replay,
 }
 
 impl Call {
-    pub const ALL: [Call; 16] = [
+    pub const ALL: [Call; 19] = [
         Call::Intake,
         Call::Strict,
         Call::Code,
@@ -41,10 +44,16 @@ impl Call {
         Call::Issue,
         Call::TakeBack,
         Call::Ask,
+        Call::LogIssue,
+        Call::LogReturn,
+        Call::Replay,
     ];
 
     /// The calls on the loans register.
     pub const REGISTER: [Call; 3] = [Call::Issue, Call::TakeBack, Call::Ask];
+
+    /// The calls on the pending issues log.
+    pub const LOG: [Call; 3] = [Call::LogIssue, Call::LogReturn, Call::Replay];
 
     pub fn name(self) -> &'static str {
         match self {
@@ -64,6 +73,9 @@ impl Call {
             Call::Issue => "issue",
             Call::TakeBack => "return",
             Call::Ask => "ask",
+            Call::LogIssue => "log_issue",
+            Call::LogReturn => "log_return",
+            Call::Replay => "replay",
         }
     }
 
@@ -77,21 +89,35 @@ impl Call {
             Call::UnitWrite => (None, Some("body")),
             Call::Base32Write | Call::HeaderRead | Call::UnitRead | Call::Join | Call::Split => (Some("bytes"), None),
             Call::Issue | Call::TakeBack | Call::Ask => (Some("text"), Some("area")),
+            Call::LogIssue | Call::LogReturn => (Some("code"), Some("log")),
+            Call::Replay => (Some("log"), Some("area")),
         }
     }
 
-    /// Whether the call writes to an output area.
+    /// Whether the call writes to the start of an output area.
     pub fn writes(self) -> bool {
-        !matches!(self, Call::Strict | Call::Distance | Call::HeaderRead | Call::UnitRead | Call::Ask) && !self.changes()
+        let only_reads = matches!(self, Call::Strict | Call::Distance | Call::HeaderRead | Call::UnitRead | Call::Ask);
+        !only_reads && !self.changes() && !self.appends()
     }
 
     /// Whether the call changes an area that it also reads: the register.
     pub fn changes(self) -> bool {
-        matches!(self, Call::Issue | Call::TakeBack)
+        matches!(self, Call::Issue | Call::TakeBack | Call::Replay)
     }
 
-    pub fn of_register(self) -> bool {
-        Call::REGISTER.contains(&self)
+    /// Whether the call writes a record to an area that holds others: the log.
+    pub fn appends(self) -> bool {
+        matches!(self, Call::LogIssue | Call::LogReturn)
+    }
+
+    /// Whether the call takes a borrower.
+    pub fn lends(self) -> bool {
+        matches!(self, Call::Issue | Call::LogIssue)
+    }
+
+    /// Whether the call stands in sequences.
+    pub fn in_sequences(self) -> bool {
+        Call::REGISTER.contains(&self) || Call::LOG.contains(&self)
     }
 
     /// Every number that the specification lets the call answer, success first.
@@ -112,6 +138,8 @@ impl Call {
             Call::Split => &[0, 7, 8, 9, 15, 19],
             Call::Issue => &[0, 1, 2, 3, 4, 5, 6, 7, 8, 9, 10, 11, 12, 13, 14, 20, 21, 23],
             Call::TakeBack | Call::Ask => &[0, 1, 2, 3, 4, 5, 6, 7, 8, 9, 10, 11, 12, 13, 14, 22, 23],
+            Call::LogIssue | Call::LogReturn => &[0, 15, 24],
+            Call::Replay => &[0, 20, 21, 22, 23, 24],
         }
     }
 }
@@ -120,26 +148,28 @@ impl Call {
 #[derive(Clone, Debug, PartialEq, Eq)]
 pub struct Request {
     pub call: Call,
-    /// The text or the bytes to read.
+    /// The text, the bytes or the log to read.
     pub first: Vec<u8>,
-    /// The second unit of a distance, the body area of the unit writer, or the register before the call.
+    /// The second unit of a distance, the body area of the unit writer, or the register or the writer's log before the call.
     pub second: Vec<u8>,
     /// Main type, subtype, version and length number of a writer.
     pub header: [u32; 4],
     /// To whom a code is issued.
     pub borrower: u32,
+    /// Where in the log a record is to be written.
+    pub position: usize,
     /// The length of the output area.
     pub area: usize,
 }
 
 impl Request {
     pub fn new(call: Call) -> Request {
-        Request { call, first: Vec::new(), second: Vec::new(), header: [0; 4], borrower: 0, area: 0 }
+        Request { call, first: Vec::new(), second: Vec::new(), header: [0; 4], borrower: 0, position: 0, area: 0 }
     }
 
     /// The second area where the call only reads it.
     pub fn only_read(&self) -> &[u8] {
-        if self.call.changes() {
+        if self.call.changes() || self.call.appends() {
             &[]
         } else {
             &self.second
@@ -158,7 +188,10 @@ impl fmt::Display for Request {
             let [main_type, subtype, version, length] = self.header;
             write!(f, " main_type={main_type} subtype={subtype} version={version} length={length}")?;
         }
-        if self.call == Call::Issue {
+        if self.call.appends() {
+            write!(f, " position={}", self.position)?;
+        }
+        if self.call.lends() {
             write!(f, " borrower={}", self.borrower)?;
         }
         let (first, second) = self.call.reads();
@@ -177,7 +210,7 @@ impl fmt::Display for Request {
 pub type Fields = Vec<(&'static str, String)>;
 
 /// The number, the other numbers of the answer in the order of their C struct (a float by its bits), and the written bytes:
-/// of a register all its bytes, changed or not.
+/// of a register or a log all its bytes, changed or not.
 #[derive(Clone, Debug, Default, PartialEq, Eq)]
 pub struct Response {
     pub number: u32,
@@ -199,6 +232,7 @@ impl Response {
         let names: &[&str] = match call {
             Call::Strict | Call::Issue | Call::TakeBack => &[],
             Call::Ask => &["borrower"],
+            Call::Replay => &["end", "offset"],
             Call::Distance => &["d", "n", "ratio"],
             Call::HeaderRead | Call::UnitRead => &["main_type", "subtype", "version", "length", "used"],
             _ => &["length"],
@@ -212,6 +246,9 @@ impl Response {
         }
         if call.changes() {
             fields.push(("area", area::hash(&self.written)));
+        }
+        if call.appends() {
+            fields.push(("log", area::hash(&self.written)));
         }
         fields
     }

@@ -2,7 +2,8 @@
 
 use crate::call::{Call, Request, Response};
 use reference::header::Header;
-use reference::{base32, composite, distance, doors, header, register, unit, Answer};
+use reference::log::Replayed;
+use reference::{base32, composite, distance, doors, header, log, register, unit, Answer};
 
 fn written(answer: Answer<Vec<u8>>) -> Response {
     answer.map_or_else(Response::refused, Response::written)
@@ -36,13 +37,29 @@ fn changed(answer: Answer<Vec<u8>>, before: &[u8]) -> Response {
     }
 }
 
+/// The log with the record at the position: on a refusal as it was.
+fn appended(answer: Answer<Vec<u8>>, before: &[u8], position: usize) -> Response {
+    let mut log = before.to_vec();
+    let answer = answer.map(|record| {
+        log[position..position + record.len()].copy_from_slice(&record);
+        record.len()
+    });
+    let (number, length) = answer.map_or_else(|number| (number, 0), |length| (0, length as u64));
+    Response { number, values: [length, 0, 0, 0, 0], written: log }
+}
+
+fn replayed(answer: Replayed) -> Response {
+    let values = [answer.end as u64, answer.offset as u64, 0, 0, 0];
+    Response { number: answer.number, values, written: answer.area }
+}
+
 fn held(answer: Answer<u32>) -> Response {
     let told = |borrower| Response { values: [u64::from(borrower), 0, 0, 0, 0], ..Response::default() };
     answer.map_or_else(Response::refused, told)
 }
 
 pub fn answer(request: &Request) -> Response {
-    let Request { call, first, second, header, borrower, area } = request;
+    let Request { call, first, second, header, borrower, position, area } = request;
     match call {
         Call::Intake => written(doors::intake(first, *area)),
         Call::Strict => written(doors::strict(first).map(|()| Vec::new())),
@@ -60,5 +77,8 @@ pub fn answer(request: &Request) -> Response {
         Call::Issue => changed(register::issue(first, *borrower, second), second),
         Call::TakeBack => changed(register::take_back(first, second), second),
         Call::Ask => held(register::ask(first, second)),
+        Call::LogIssue => appended(log::issue(first, *borrower, second.len(), *position), second, *position),
+        Call::LogReturn => appended(log::take_back(first, second.len(), *position), second, *position),
+        Call::Replay => replayed(log::replay(first, second)),
     }
 }

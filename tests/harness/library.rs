@@ -40,6 +40,13 @@ struct Holder {
     borrower: u32,
 }
 
+#[repr(C)]
+struct ReplayAnswer {
+    number: u32,
+    end: u32,
+    offset: usize,
+}
+
 type Writer = unsafe extern "C" fn(*const u8, usize, *mut u8, usize) -> Written;
 type Reader = unsafe extern "C" fn(*const u8, usize) -> HeaderAnswer;
 
@@ -54,6 +61,16 @@ extern "C" {
     fn loans_issue(text: *const u8, text_len: usize, borrower: u32, area: *mut u8, area_len: usize) -> u32;
     fn loans_return(text: *const u8, text_len: usize, area: *mut u8, area_len: usize) -> u32;
     fn loans_ask(text: *const u8, text_len: usize, area: *const u8, area_len: usize) -> Holder;
+    fn loans_log_issue(
+        log: *mut u8,
+        log_len: usize,
+        position: usize,
+        code: *const u8,
+        code_len: usize,
+        borrower: u32,
+    ) -> Written;
+    fn loans_log_return(log: *mut u8, log_len: usize, position: usize, code: *const u8, code_len: usize) -> Written;
+    fn loans_replay(log: *const u8, log_len: usize, area: *mut u8, area_len: usize) -> ReplayAnswer;
     fn probe_base32_read(text: *const u8, text_len: usize, out: *mut u8, out_len: usize) -> Written;
     fn probe_base32_write(bytes: *const u8, bytes_len: usize, out: *mut u8, out_len: usize) -> Written;
     fn probe_header_read(bytes: *const u8, bytes_len: usize) -> HeaderAnswer;
@@ -175,8 +192,11 @@ impl Library {
             return None;
         }
         let found = answer.response.fields(request.call);
-        let places = || area::difference(&due.written, &answer.response.written).filter(|_| request.call.changes());
-        Some(self.difference(case, request, (due.fields(request.call), found), answer.fault.or_else(places)))
+        let (after, written) = (&due.written, &answer.response.written);
+        let place = || area::place_difference(after, written).filter(|_| request.call.changes());
+        let byte = || area::byte_difference(after, written).filter(|_| request.call.appends());
+        let fault = answer.fault.or_else(place).or_else(byte);
+        Some(self.difference(case, request, (due.fields(request.call), found), fault))
     }
 
     /// What the call writes, where it is not refused.
@@ -198,7 +218,7 @@ impl Library {
     /// Makes the call.
     pub fn answer(&mut self, case: &Case, request: &Request, setting: &Setting) -> Answer {
         let Setting { side, null, filling } = setting;
-        let before: Vec<u8> = match request.call.changes() {
+        let before: Vec<u8> = match request.call.changes() || request.call.appends() {
             true => request.second.clone(),
             false => filling.iter().copied().cycle().take(request.area).collect(),
         };
@@ -229,19 +249,20 @@ impl Library {
 
     /// Takes the written bytes over into the response and sees that all others are as before.
     fn look(&mut self, request: &Request, before: &[u8], response: &mut Response) -> Option<String> {
-        let length = match request.call {
-            call if call.changes() => before.len(),
-            call if call.writes() && response.number == 0 => response.values[0] as usize,
-            _ => 0,
+        let (from, length) = match request.call {
+            call if call.changes() => (0, before.len()),
+            call if call.writes() && response.number == 0 => (0, response.values[0] as usize),
+            call if call.appends() && response.number == 0 => (request.position, response.values[0] as usize),
+            _ => (0, 0),
         };
-        if length > before.len() {
+        let Some(end) = from.checked_add(length).filter(|&end| end <= before.len()) else {
             return Some("the length is beyond the area".to_string());
-        }
+        };
         let after = self.out.area();
-        memcheck::check_defined(&after[..length]);
+        memcheck::check_defined(&after[from..end]);
         memcheck::make_defined(after);
-        response.written = after[..length].to_vec();
-        let changed = (length..before.len()).find(|&at| after[at] != before[at]);
+        response.written = if request.call.appends() { after.to_vec() } else { after[from..end].to_vec() };
+        let changed = (0..from).chain(end..before.len()).find(|&at| after[at] != before[at]);
         if let Some(at) = changed {
             Some(format!("the byte at offset {at} of the output area was changed"))
         } else if self.first.area() != request.first || self.second.area() != request.only_read() {
@@ -277,6 +298,9 @@ unsafe fn enter(request: &Request, first: *const u8, second: *const u8, out: *mu
         Call::Issue => Response::refused(loans_issue(first, first_len, request.borrower, out, second_len)),
         Call::TakeBack => Response::refused(loans_return(first, first_len, out, second_len)),
         Call::Ask => held(loans_ask(first, first_len, second, second_len)),
+        Call::LogIssue => written(loans_log_issue(out, second_len, request.position, first, first_len, request.borrower)),
+        Call::LogReturn => written(loans_log_return(out, second_len, request.position, first, first_len)),
+        Call::Replay => replayed(loans_replay(first, first_len, out, second_len)),
     }
 }
 
@@ -293,6 +317,11 @@ fn header(answer: HeaderAnswer) -> Response {
 
 fn held(answer: Holder) -> Response {
     Response { number: answer.number, values: [u64::from(answer.borrower), 0, 0, 0, 0], written: Vec::new() }
+}
+
+fn replayed(answer: ReplayAnswer) -> Response {
+    let values = [u64::from(answer.end), answer.offset as u64, 0, 0, 0];
+    Response { number: answer.number, values, written: Vec::new() }
 }
 
 fn measured(answer: DistanceAnswer) -> Response {

@@ -1,13 +1,29 @@
-//! The vectors' sequences: steps on one register in their order, with the answers that are due.
+//! The vectors' sequences: steps on one register and one log in their order, with the answers that are due.
 
 use crate::call::{Call, Fields, Request, Response};
 use crate::table::Columns;
+use reference::log::End;
 
-/// The file of the register's sequences.
+/// The files of the sequences.
 pub const REGISTER: &str = "register.txt";
+pub const LOG: &str = "log.txt";
+pub const REPLAY: &str = "replay.txt";
+pub const FILES: [&str; 3] = [REGISTER, LOG, REPLAY];
 
 /// The bytes of a register.
 const LENGTH: usize = 12_288;
+/// What a log's area holds before anything is written.
+const UNWRITTEN: u8 = 0xee;
+
+/// What the steps of a sequence work on.
+#[derive(Clone, Default)]
+pub struct Held {
+    /// The register.
+    pub area: Vec<u8>,
+    pub log: Vec<u8>,
+    /// Where the writer goes on in the log.
+    pub position: usize,
+}
 
 /// A line of a sequence.
 pub enum Step {
@@ -19,10 +35,12 @@ pub enum Step {
     Length(usize),
     /// No call: bytes of the area are overwritten from an offset on.
     Poke(usize, Vec<u8>),
+    /// A log of so many bytes with nothing written.
+    Log(usize),
     Call(Asked),
 }
 
-/// A call, but for the area, and every column of the answer that is due.
+/// A call, but for what it works on, and every column of the answer that is due.
 pub struct Asked {
     request: Request,
     pub due: Fields,
@@ -33,36 +51,73 @@ impl Asked {
         self.request.call
     }
 
-    pub fn request(&self, area: &[u8]) -> Request {
-        Request { second: area.to_vec(), ..self.request.clone() }
+    pub fn request(&self, held: &Held) -> Request {
+        match self.call().appends() {
+            true => Request { second: held.log.clone(), position: held.position, ..self.request.clone() },
+            false => Request { second: held.area.clone(), ..self.request.clone() },
+        }
     }
 
-    /// The number that is due.
-    pub fn number(&self) -> u32 {
-        self.due[0].1.parse().expect("a number that was read")
+    /// What the call is for the count of the sequences' lines: its step, and the number that is due; or that a tear is.
+    pub fn kind(&self) -> String {
+        let step = if self.call().appends() { "append" } else { self.call().name() };
+        let torn = self.due.iter().any(|field| field.0 == "outcome" && field.1 == TORN);
+        format!("{step} {}", if torn { "torn" } else { &self.due[0].1 })
     }
 
     /// The same columns of a response. The C interface has no value for `told` and `looks`, which are 0 throughout.
     pub fn fields_of(&self, response: &Response) -> Fields {
-        let fields = response.fields(self.call());
+        let mut fields = response.fields(self.call());
+        if self.call() == Call::Replay {
+            fields.extend([("outcome", outcome(response)), ("place", response.values[1].to_string())]);
+        }
         let value = |name| fields.iter().find(|field| field.0 == name).map_or("0".to_string(), |field| field.1.clone());
         self.due.iter().map(|&(name, _)| (name, value(name))).collect()
     }
+
+    /// Takes over the register or the log as the call has to leave it.
+    pub fn take(&self, held: &mut Held, after: Vec<u8>) {
+        if self.call().changes() {
+            held.area = after;
+        } else if self.call().appends() {
+            held.log = after;
+            held.position += self.due[1].1.parse::<usize>().expect("a length that was read");
+        }
+    }
 }
 
-/// What a step that is no call makes of the area; an error tells why it cannot.
-pub fn prepared(step: &Step, mut area: Vec<u8>) -> Result<Vec<u8>, String> {
+/// The vectors' columns for how a replay ends. They have the same for one that was not begun as for one to the log's end.
+const TO_THE_END: &str = "0";
+const TORN: &str = "1";
+const STOPPED: &str = "2";
+
+/// The end of a replay as the vectors have it; in words where it does not go with the number.
+fn outcome(response: &Response) -> String {
+    let (end, number) = (response.values[0], response.number);
+    let is = |due: End| end == due as u64;
+    match number {
+        23 if is(End::NotBegun) => TO_THE_END.to_string(),
+        0 if is(End::Ran) => TO_THE_END.to_string(),
+        0 if is(End::Torn) => TORN.to_string(),
+        20..=22 | 24 if is(End::Stopped) => STOPPED.to_string(),
+        _ => format!("(end {end} with number {number})"),
+    }
+}
+
+/// What a step that is no call makes of what it works on; an error tells why it cannot.
+pub fn prepared(step: &Step, held: &mut Held) -> Result<(), String> {
     match step {
-        Step::Start => return Ok(Vec::new()),
-        Step::New => return Ok(vec![0; LENGTH]),
-        Step::Length(length) => area.resize(*length, 0),
-        Step::Poke(offset, bytes) => match area.get_mut(*offset..).and_then(|behind| behind.get_mut(..bytes.len())) {
+        Step::Start => *held = Held::default(),
+        Step::New => held.area = vec![0; LENGTH],
+        Step::Length(length) => held.area.resize(*length, 0),
+        Step::Poke(offset, bytes) => match held.area.get_mut(*offset..).and_then(|behind| behind.get_mut(..bytes.len())) {
             Some(old) => old.copy_from_slice(bytes),
             None => return Err("the bytes do not fit into the area".to_string()),
         },
+        Step::Log(length) => (held.log, held.position) = (vec![UNWRITTEN; *length], 0),
         Step::Call(_) => (),
     }
-    Ok(area)
+    Ok(())
 }
 
 /// A line; an error tells what cannot be read.
@@ -73,24 +128,56 @@ pub fn parse(line: &str) -> Result<Step, String> {
         "new" => Ok(Step::New),
         "length" => columns.number("length").map(Step::Length),
         "poke" => Ok(Step::Poke(columns.number("offset")?, columns.bytes("bytes")?)),
-        "issue" => asked(Call::Issue, &mut columns),
-        "return" => asked(Call::TakeBack, &mut columns),
-        "ask" => asked(Call::Ask, &mut columns),
+        "log" => columns.number("length").map(Step::Log),
+        "issue" => on_register(Call::Issue, &mut columns),
+        "return" => on_register(Call::TakeBack, &mut columns),
+        "ask" => on_register(Call::Ask, &mut columns),
+        "append" => append(&mut columns),
+        "replay" => replay(&mut columns),
         word => Err(format!("no step is called '{word}'")),
     }?;
     columns.end()?;
     Ok(step)
 }
 
-fn asked(call: Call, columns: &mut Columns) -> Result<Step, String> {
+fn on_register(call: Call, columns: &mut Columns) -> Result<Step, String> {
     let mut request = Request { first: columns.bytes("text")?, ..Request::new(call) };
     if call == Call::Issue {
         request.borrower = columns.number("borrower")?;
     }
+    asked(request, columns, if call.changes() { &["told", "area"] } else { &["borrower", "looks", "told"] })
+}
+
+/// Records have no number of their own, and a return has no borrower: these columns are for others.
+fn append(columns: &mut Columns) -> Result<Step, String> {
+    let call = match columns.as_it_stands("kind")?.as_str() {
+        "issue" => Call::LogIssue,
+        "return" => Call::LogReturn,
+        word => return Err(format!("no record is called '{word}'")),
+    };
+    columns.number::<u32>("of the record")?;
+    let borrower: u32 = columns.number("borrower")?;
+    let mut request = Request { first: columns.bytes("code")?, ..Request::new(call) };
+    if call.lends() {
+        request.borrower = borrower;
+    }
+    asked(request, columns, &["length", "log"])
+}
+
+fn replay(columns: &mut Columns) -> Result<Step, String> {
+    let request = Request { first: columns.bytes("log")?, ..Request::new(Call::Replay) };
+    asked(request, columns, &["outcome", "place", "area"])
+}
+
+/// A call with the number and the other columns that are due.
+fn asked(request: Request, columns: &mut Columns, others: &[&'static str]) -> Result<Step, String> {
     let mut due = vec![("number", columns.number::<u32>("number")?.to_string())];
-    let others: &[&str] = if call.changes() { &["told", "area"] } else { &["borrower", "looks", "told"] };
     for &name in others {
-        due.push((name, columns.as_it_stands(name)?));
+        let value = match name {
+            "length" => columns.number::<usize>(name)?.to_string(),
+            _ => columns.as_it_stands(name)?,
+        };
+        due.push((name, value));
     }
     Ok(Step::Call(Asked { request, due }))
 }

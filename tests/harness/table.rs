@@ -5,9 +5,9 @@ use crate::hex;
 use std::str::FromStr;
 
 /// The code of a text and the text of a code have no table of their own: they are held against those of other calls. The
-/// calls on the register stand in sequences.
+/// calls on the register and the log stand in sequences.
 pub fn exists(call: Call) -> bool {
-    !matches!(call, Call::Code | Call::Text) && !call.of_register()
+    !matches!(call, Call::Code | Call::Text) && !call.in_sequences()
 }
 
 pub fn name(call: Call) -> String {

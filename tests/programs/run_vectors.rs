@@ -21,7 +21,7 @@ const USAGE: &str = "usage: run_vectors FOLDER --lines PROGRAM [--partial] [--on
   FOLDER              the folder of the vectors
   --lines PROGRAM     the line program
   --partial           for trials: tables, lines of tables, sequences, line files or the line program may be missing
-  --only TABLE LINE   one line of one table, or one call of register.txt, counted from 1; wants no line program
+  --only TABLE LINE   one line of a table, or one call of register, log or replay, counted from 1; wants no line program
   --only FILE.in      one line file";
 
 /// The longest area of the vectors is far below this.
@@ -77,9 +77,10 @@ fn only_one(words: &mut Words) -> Only {
     if name.ends_with(".in") {
         return Only::File(name);
     }
-    let file = match name.strip_suffix(".tsv").unwrap_or(&name) {
-        "register" | sequence::REGISTER => sequence::REGISTER.to_string(),
-        table => format!("{table}.tsv"),
+    let is_named = |file: &&str| *file == name || file.strip_suffix(".txt") == Some(&name);
+    let file = match sequence::FILES.into_iter().find(is_named) {
+        Some(file) => file.to_string(),
+        None => format!("{}.tsv", name.strip_suffix(".tsv").unwrap_or(&name)),
     };
     Only::Line(file, words.number("--only"))
 }
@@ -87,12 +88,12 @@ fn only_one(words: &mut Words) -> Only {
 /// What is wrong with options that can be read.
 fn fault(options: &Options) -> Option<String> {
     match &options.only {
-        Some(Only::Line(name, line)) if name == sequence::REGISTER => {
+        Some(Only::Line(name, line)) if sequence::FILES.contains(&name.as_str()) => {
             let has_call = read(options, name).is_ok_and(|text| sequences::has_call(&text, *line));
             (!has_call).then(|| format!("'{name}' is missing, or its line {line} is, or is no call"))
         }
         Some(Only::Line(name, _)) if !table::names().contains(name) => {
-            Some(format!("no table is called '{name}'; tables: {} {}", table::names().join(" "), sequence::REGISTER))
+            Some(format!("no table is called '{name}'; tables: {}", all_names().join(" ")))
         }
         Some(Only::Line(name, line)) if !has_line(&options.folder.join(name), *line) => {
             Some(format!("'{name}' is missing, or its line {line} is, or is a comment"))
@@ -103,6 +104,11 @@ fn fault(options: &Options) -> Option<String> {
         None if options.lines.is_none() && !options.partial => Some("it wants --lines PROGRAM, or --partial".to_string()),
         _ => None,
     }
+}
+
+/// The tables and the sequences.
+fn all_names() -> Vec<String> {
+    table::names().into_iter().chain(sequence::FILES.map(String::from)).collect()
 }
 
 /// Whether a table has this line, and no comment there.
@@ -136,10 +142,12 @@ fn sizes(options: &Options, tally: &mut Tally) {
     let due = format!("{LEAST_LINES} different lines each, {LEAST_OF_A_NUMBER} for each number");
     let detail = format!("{} tables, at least {due}{}", calls.len(), few.concat());
     tally.check("tables are whole", few.is_empty(), detail);
-    let few =
-        read(options, sequence::REGISTER).map_or_else(|error| vec![format!(" {error}")], |text| sequences::too_few(&text));
-    let due = format!("{} lines, {} for each number", sequences::LEAST_LINES, sequences::LEAST_OF_A_NUMBER);
-    tally.check("sequences are whole", few.is_empty(), format!("at least {due}{}", few.concat()));
+    let few = sequence::FILES.map(|file| match read(options, file) {
+        Ok(text) => sequences::too_few(file, &text).concat(),
+        Err(error) => format!("\n {file}: {error}"),
+    });
+    let due = format!("{} files, at least {} lines for each number", few.len(), sequences::LEAST_OF_A_NUMBER);
+    tally.check("sequences are whole", few.concat().is_empty(), format!("{due}{}", few.concat()));
     let files = names(&options.folder, ".in").len();
     tally.check("line files are all there", files >= LEAST_LINE_FILES, format!("{files}, at least {LEAST_LINE_FILES}"));
 }
@@ -166,8 +174,8 @@ fn too_few(call: Call, table: Result<String, String>) -> Vec<String> {
     few
 }
 
-/// One check for each call's file and for each other use of a file, one for the sequences, and one that no other table or
-/// sequence stands in the folder unread.
+/// One check for each call's file and for each other use of a file, one for each file of sequences, and one that no other
+/// table or sequence stands in the folder unread.
 fn call_files(options: &Options, tally: &mut Tally) {
     let mut library = Library::fenced(LONGEST, options.again.clone());
     let own = Call::ALL.into_iter().filter(|&call| table::exists(call)).map(|call| (call, "", answers as Check));
@@ -176,10 +184,11 @@ fn call_files(options: &Options, tally: &mut Tally) {
     for (call, use_of, check) in own.chain(others) {
         file(options, tally, &table::name(call), use_of, |table, only| run_table(table, call, only, &mut library, check));
     }
-    file(options, tally, sequence::REGISTER, "", |text, only| sequences::run(text, only, &mut library, &settings()));
-    let known = [table::names(), vec![sequence::REGISTER.to_string()]].concat();
+    for name in sequence::FILES {
+        file(options, tally, name, "", |text, only| sequences::run(name, text, only, &mut library, &settings()));
+    }
     let files = [names(&options.folder, ".tsv"), names(&options.folder, ".txt")].concat();
-    let unread: Vec<String> = files.into_iter().filter(|name| !known.contains(name)).collect();
+    let unread: Vec<String> = files.into_iter().filter(|name| !all_names().contains(name)).collect();
     if !unread.is_empty() {
         tally.check("tables", false, format!("no call reads {}", unread.join(" ")));
     }

@@ -1,29 +1,46 @@
-//! The vectors' sequences through the linked library: every call on the area that the one before it left.
+//! The vectors' sequences through the linked library: every call on what the one before it left.
 
-use harness::call::Call;
 use harness::library::{Case, Library, Setting};
-use harness::sequence::{self, Asked, Step};
+use harness::sequence::{self, Asked, Held, Step};
 use harness::told::{self, Difference, Told};
-use harness::{area, expected, table};
+use harness::{expected, table};
 
-/// What the sequences have at least, as their README says, so that none is lost unseen: lines, and lines for success and for
-/// each number of a call's own.
-pub const LEAST_LINES: usize = 1400;
+/// What the sequences have at least, as their README says, so that none is lost unseen: lines of each file, and lines for
+/// success and for each number of a call's own.
 pub const LEAST_OF_A_NUMBER: usize = 50;
 
-/// What the sequences have too few of.
-pub fn too_few(text: &str) -> Vec<String> {
+fn least_lines(file: &str) -> usize {
+    match file {
+        sequence::REGISTER => 1400,
+        sequence::LOG => 540,
+        _ => 1460,
+    }
+}
+
+/// The steps of a file with the numbers that are to stand there.
+fn kinds(file: &str) -> &'static [(&'static str, &'static [&'static str])] {
+    match file {
+        sequence::REGISTER => {
+            &[("issue", &["0", "20", "21", "23"]), ("return", &["0", "22", "23"]), ("ask", &["0", "22", "23"])]
+        }
+        sequence::LOG => &[("append", &["0", "15", "24"])],
+        _ => &[("replay", &["0", "torn", "20", "21", "22", "23", "24"])],
+    }
+}
+
+/// What a file of sequences has too few of.
+pub fn too_few(file: &str, text: &str) -> Vec<String> {
     let steps: Vec<Step> = table::lines(text).flat_map(|(_, line)| sequence::parse(line)).collect();
     let mut few = Vec::new();
-    if steps.len() < LEAST_LINES {
-        few.push(format!("\n {} lines", steps.len()));
+    if steps.len() < least_lines(file) {
+        few.push(format!("\n {file}: {} lines", steps.len()));
     }
-    for call in Call::REGISTER {
-        for &due in call.numbers().iter().filter(|&&number| number == 0 || number >= 20) {
-            let is_due = |step: &&Step| matches!(step, Step::Call(asked) if asked.call() == call && asked.number() == due);
-            let count = steps.iter().filter(is_due).count();
+    for &(step, numbers) in kinds(file) {
+        for number in numbers {
+            let kind = format!("{step} {number}");
+            let count = steps.iter().filter(|step| matches!(step, Step::Call(asked) if asked.kind() == kind)).count();
             if count < LEAST_OF_A_NUMBER {
-                few.push(format!("\n {}: number {due} in {count} lines", call.name()));
+                few.push(format!("\n {file}: {kind} in {count} lines"));
             }
         }
     }
@@ -37,22 +54,28 @@ pub fn has_call(text: &str, line: u64) -> bool {
 }
 
 /// Runs all lines; tells how many calls, or all lines that differ. Of one line alone only that one is told, and those before
-/// it run for the area that they leave.
-pub fn run(text: &str, only: Option<u64>, library: &mut Library, settings: &[Setting]) -> Result<String, String> {
-    let (mut calls, mut sequences, mut area, mut bad) = (0, 0, Vec::new(), Vec::new());
+/// it run for what they leave.
+pub fn run(
+    file: &str,
+    text: &str,
+    only: Option<u64>,
+    library: &mut Library,
+    settings: &[Setting],
+) -> Result<String, String> {
+    let (mut calls, mut sequences, mut held, mut bad) = (0, 0, Held::default(), Vec::new());
     for (number, line) in table::lines(text).take_while(|(number, _)| *number <= only.unwrap_or(u64::MAX)) {
-        let case = Case { of: sequence::REGISTER, number };
+        let case = Case { of: file, number };
         let is_told = only.unwrap_or(number) == number;
         let told = match sequence::parse(line) {
             Ok(Step::Call(asked)) => {
                 calls += usize::from(is_told);
-                let found = differs(library, &case, &asked, &mut area, settings);
+                let found = differs(library, &case, &asked, &mut held, settings);
                 found.map(|difference| (difference.to_string(), difference.brief()))
             }
             step => {
                 sequences += usize::from(matches!(step, Ok(Step::Start)));
-                let after = step.and_then(|step| sequence::prepared(&step, area.clone()));
-                after.map(|after| area = after).err().map(|why| (format!(" {why}"), why))
+                let done = step.and_then(|step| sequence::prepared(&step, &mut held));
+                done.err().map(|why| (format!(" {why}"), why))
             }
         };
         if let Some((whole, brief)) = told.filter(|_| is_told) {
@@ -66,29 +89,21 @@ pub fn run(text: &str, only: Option<u64>, library: &mut Library, settings: &[Set
     }
 }
 
-/// Makes the call under every setting; the area becomes what the call has to leave.
-fn differs(
-    library: &mut Library,
-    case: &Case,
-    asked: &Asked,
-    area: &mut Vec<u8>,
-    settings: &[Setting],
-) -> Option<Difference> {
-    let request = asked.request(area);
-    let mut first = None;
+/// Makes the call under every setting; what is held becomes what the call has to leave.
+fn differs(library: &mut Library, case: &Case, asked: &Asked, held: &mut Held, settings: &[Setting]) -> Option<Difference> {
+    let request = asked.request(held);
+    let (mut first, mut found) = (None, None);
     for setting in settings {
         let answer = library.answer(case, &request, setting);
         let fields = (asked.due.clone(), asked.fields_of(&answer.response));
-        if asked.call().changes() && fields.0.last() == fields.1.last() {
-            *area = answer.response.written;
+        if fields.0.last() == fields.1.last() {
+            found = Some(answer.response.written);
         }
         if answer.fault.is_some() || fields.0 != fields.1 {
             first = first.or_else(|| Some(library.difference(case, &request, fields, answer.fault)));
         }
     }
-    // A hash does not tell the area: where no answer had it, the reference lets the lines behind this one be tested too.
-    if asked.call().changes() && asked.due.last().is_some_and(|due| due.1 != area::hash(area)) {
-        *area = expected::answer(&request).written;
-    }
+    // A hash does not tell the bytes: where no answer had it, the reference lets the lines behind this one be tested too.
+    asked.take(held, found.unwrap_or_else(|| expected::answer(&request).written));
     first
 }

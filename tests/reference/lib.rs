@@ -10,6 +10,7 @@ pub mod distance;
 pub mod doors;
 pub mod header;
 pub mod lines;
+pub mod log;
 pub mod refusal;
 pub mod register;
 pub mod unit;

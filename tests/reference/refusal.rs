@@ -23,3 +23,4 @@ pub const ALREADY_OUT: u32 = 20;
 pub const ALL_OUT: u32 = 21;
 pub const NOT_OUT: u32 = 22;
 pub const NOT_REGISTER: u32 = 23;
+pub const NOT_RECORD: u32 = 24;

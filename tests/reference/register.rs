@@ -26,7 +26,7 @@ fn zeros(bytes: &[u8]) -> bool {
 }
 
 /// Whether the bytes are one permitted unit or composite, and nothing behind it.
-fn is_one_code(bytes: &[u8]) -> bool {
+pub(crate) fn is_one_code(bytes: &[u8]) -> bool {
     unit::read(bytes).is_ok_and(|(_, used)| used == bytes.len())
 }
 
@@ -77,21 +77,34 @@ pub fn place_of(code: &[u8], borrower: u32) -> Vec<u8> {
     place
 }
 
+/// Only 23.
+pub(crate) fn test(area: &[u8]) -> Answer<()> {
+    loans(area).map(drop)
+}
+
+/// The register after the issue of a code: 23, 20, 21.
+pub(crate) fn issue_code(code: &[u8], borrower: u32, area: &[u8]) -> Answer<Vec<u8>> {
+    let loans = loans(area)?;
+    demand(found(&loans, code).is_none(), ALREADY_OUT)?;
+    let place = loans.iter().position(Option::is_none).ok_or(ALL_OUT)?;
+    Ok(overwritten(area, place * PLACE, &place_of(code, borrower)))
+}
+
+/// The register after the return of a code: 23, 22.
+pub(crate) fn take_code_back(code: &[u8], area: &[u8]) -> Answer<Vec<u8>> {
+    let loans = loans(area)?;
+    let (place, _) = found(&loans, code).ok_or(NOT_OUT)?;
+    Ok(overwritten(area, place * PLACE, &[0; PLACE]))
+}
+
 /// The register after an issue: intake's numbers, then 23, 20, 21.
 pub fn issue(text: &[u8], borrower: u32, area: &[u8]) -> Answer<Vec<u8>> {
-    let code = code_bytes(text)?;
-    let loans = loans(area)?;
-    demand(found(&loans, &code).is_none(), ALREADY_OUT)?;
-    let place = loans.iter().position(Option::is_none).ok_or(ALL_OUT)?;
-    Ok(overwritten(area, place * PLACE, &place_of(&code, borrower)))
+    issue_code(&code_bytes(text)?, borrower, area)
 }
 
 /// The register after a return: intake's numbers, then 23, 22.
 pub fn take_back(text: &[u8], area: &[u8]) -> Answer<Vec<u8>> {
-    let code = code_bytes(text)?;
-    let loans = loans(area)?;
-    let (place, _) = found(&loans, &code).ok_or(NOT_OUT)?;
-    Ok(overwritten(area, place * PLACE, &[0; PLACE]))
+    take_code_back(&code_bytes(text)?, area)
 }
 
 /// Who has a code: intake's numbers, then 23, 22.

@@ -3,7 +3,8 @@
 
 use reference::distance::Distance;
 use reference::header::Header;
-use reference::{base32, composite, distance, doors, header, register, unit, Answer};
+use reference::log::Replayed;
+use reference::{base32, composite, distance, doors, header, log, register, unit, Answer};
 
 #[repr(C)]
 pub struct Written {
@@ -36,6 +37,13 @@ pub struct Holder {
     borrower: u32,
 }
 
+#[repr(C)]
+pub struct ReplayAnswer {
+    number: u32,
+    end: u32,
+    offset: usize,
+}
+
 /// A lent area; null stands for an empty one.
 unsafe fn lent<'a>(start: *const u8, length: usize) -> &'a [u8] {
     if length == 0 {
@@ -62,6 +70,11 @@ fn written(answer: Answer<Vec<u8>>, area: &mut [u8]) -> Written {
             Written { number: 0, length: bytes.len() }
         }
     }
+}
+
+/// Copies a record to its position in the log, and on a refusal nothing.
+fn appended(answer: Answer<Vec<u8>>, log: &mut [u8], position: usize) -> Written {
+    written(answer, log.get_mut(position..).unwrap_or_default())
 }
 
 /// Copies the register as the call leaves it, and on a refusal nothing.
@@ -176,4 +189,36 @@ pub unsafe extern "C" fn loans_ask(text: *const u8, text_len: usize, area: *cons
         Err(number) => Holder { number, borrower: 0 },
         Ok(borrower) => Holder { number: 0, borrower },
     }
+}
+
+#[no_mangle]
+pub unsafe extern "C" fn loans_log_issue(
+    log: *mut u8,
+    log_len: usize,
+    position: usize,
+    code: *const u8,
+    code_len: usize,
+    borrower: u32,
+) -> Written {
+    appended(log::issue(lent(code, code_len), borrower, log_len, position), lent_out(log, log_len), position)
+}
+
+#[no_mangle]
+pub unsafe extern "C" fn loans_log_return(
+    log: *mut u8,
+    log_len: usize,
+    position: usize,
+    code: *const u8,
+    code_len: usize,
+) -> Written {
+    appended(log::take_back(lent(code, code_len), log_len, position), lent_out(log, log_len), position)
+}
+
+/// The register stays as the replay leaves it, on a refusal too.
+#[no_mangle]
+pub unsafe extern "C" fn loans_replay(log: *const u8, log_len: usize, area: *mut u8, area_len: usize) -> ReplayAnswer {
+    let area = lent_out(area, area_len);
+    let Replayed { number, end, offset, area: after } = log::replay(lent(log, log_len), area);
+    area.copy_from_slice(&after);
+    ReplayAnswer { number, end: end as u32, offset }
 }

@@ -1,9 +1,21 @@
--- The answers of the strict door and of a question as C has them, by each case.
-use Prim.Native.Nat.{ℕ}
+-- The answers of the strict door, of a question and of the log as C has them, by each case.
+use Prim.Native.Nat.{ℕ, _-_, _≤_}
 use mathlib.Core.Path.{_≡_, refl, sym, _∙_, ap}
+use mathlib.Core.List.{List}
+use native.Mathlib.Omega.{arith}
 use Rattle.iscc.specs.Answer.{Answer, accept, refuse, numberOf}
 use Rattle.iscc.specs.Refusals.{Refusal}
 use Rattle.iscc.specs.Meaning.{Meaning}
+use Rattle.iscc.specs.declared.written.Outcome.{Outcome}
+use Rattle.loans.specs.Map.{Change}
+use Rattle.loans.specs.Writer.{Written}
+use Rattle.loans.specs.Replay as loans
+use Rattle.loans.specs.PendingLog.{writeRecord}
+use Rattle.loans.proofs.LogPromises.{pending-log}
+use Rattle.log.specs.declared.append.Appended.{Appended}
+use Rattle.log.specs.declared.replay.Replayed.{Replayed}
+use Rattle.log.specs.declared.replay.Replayed.the-variants as ends
+use Rattle.log.specs.Representation.{appendedAs, endAs, replayedAs}
 use Rattle.door.specs.Representation.{checkedNumber}
 use Rattle.door.specs.declared.strict.Checked.{Checked}
 use Rattle.door.specs.declared.strict.Checked.the-variants.{Accepted, Refused}
@@ -11,7 +23,8 @@ use Rattle.register.specs.Representation.{holderAs, holderNumber, holderBorrowe
 use Rattle.register.specs.declared.answer.Holder.{Holder}
 use Rattle.register.specs.declared.answer.Holder.the-variants as holders
 use Rattle.console.specs.declared.lending.HolderAnswer.{HolderAnswer}
-use Rattle.console.specs.Representation.{holderAnswerAs}
+use Rattle.console.specs.declared.logging.ReplayAnswer.{ReplayAnswer}
+use Rattle.console.specs.Representation.{holderAnswerAs, movedOn, recordOutcome, endAnswer, replayAnswerAs}
 
 pub taken : (r : Checked) (x : Answer Meaning) → checkedNumber r ≡ numberOf x → r ≡ Accepted → 0 ≡ numberOf x
 taken r x e f = ap checkedNumber (sym f) ∙ e
@@ -33,3 +46,53 @@ is-held r x b e f = ap answerFor (sym f ∙ e) ∙ holder-answer x
 
 pub not-held : (r : Holder) (x : Answer ℕ) (q : Refusal) → r ≡ holderAs x → r ≡ holders.Refused q → record { number = q .number; borrower = 0 } ≡ holderAnswerAs x
 not-held r x q e f = ap answerFor (sym f ∙ e) ∙ holder-answer x
+
+-- ---- a record
+
+-- the position never goes back
+pub moved-on : (ch : Change) (log : List ℕ) (position : ℕ) (r : Appended) → r ≡ appendedAs position (writeRecord ch log position) → position ≤ r .position
+moved-on ch log position r e = rw e (go (writeRecord ch log position) refl)
+  where
+    go : (x : Answer Written) → writeRecord ch log position ≡ x → position ≤ appendedAs position x .position
+    go (accept w) f = omega (arith, pending-log .appends ch log position w f .moved)
+    go (refuse q) f = omega arith
+
+pub record-told : (position : ℕ) (x : Answer Written) (r : Appended) (o : Outcome) → r ≡ appendedAs position x → o ≡ movedOn position r → o ≡ recordOutcome position x
+record-told position x r o e f = f ∙ ap (movedOn position) e ∙ go x
+  where
+    go : (x : Answer Written) → movedOn position (appendedAs position x) ≡ recordOutcome position x
+    go (accept w) = refl
+    go (refuse q) = let n : position - position ≡ 0 = omega arith in ap (λ (k : ℕ). record { number = q .number; length = k }) n
+
+-- ---- a replay
+
+abbrev replayFor : Replayed → ReplayAnswer
+replayFor ends.Ended = record { number = 0; end = 1; offset = 0 }
+replayFor (ends.Torn offset) = record { number = 0; end = 2; offset = offset }
+replayFor (ends.Stopped q offset) = record { number = q .number; end = 3; offset = offset }
+replayFor (ends.Refused q) = record { number = q .number; end = 0; offset = 0 }
+
+end-answer : (x : loans.End) → replayFor (endAs x) ≡ endAnswer x
+end-answer loans.ended = refl
+end-answer (loans.torn offset) = refl
+end-answer (loans.stopped q offset) = refl
+
+replay-answer : (x : Answer (loans.Replayed (List ℕ))) → replayFor (replayedAs x) ≡ replayAnswerAs x
+replay-answer (accept y) = end-answer (y .end)
+replay-answer (refuse q) = refl
+
+module _ (r : Replayed) (x : Answer (loans.Replayed (List ℕ))) (e : r ≡ replayedAs x) where
+  answer-of : (s : Replayed) → r ≡ s → replayFor s ≡ replayAnswerAs x
+  answer-of s f = ap replayFor (sym f ∙ e) ∙ replay-answer x
+
+  pub has-ended : r ≡ ends.Ended → record { number = 0; end = 1; offset = 0 } ≡ replayAnswerAs x
+  has-ended f = answer-of _ f
+
+  pub is-torn : (offset : ℕ) → r ≡ ends.Torn offset → record { number = 0; end = 2; offset = offset } ≡ replayAnswerAs x
+  is-torn offset f = answer-of _ f
+
+  pub is-stopped : (q : Refusal) (offset : ℕ) → r ≡ ends.Stopped q offset → record { number = q .number; end = 3; offset = offset } ≡ replayAnswerAs x
+  is-stopped q offset f = answer-of _ f
+
+  pub not-begun : (q : Refusal) → r ≡ ends.Refused q → record { number = q .number; end = 0; offset = 0 } ≡ replayAnswerAs x
+  not-begun q f = answer-of _ f

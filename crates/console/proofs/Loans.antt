@@ -1,4 +1,4 @@
--- What the register promises holds of what C sees.
+-- What the register and its log promise holds of what C sees.
 use Prim.Native.Nat.{ℕ}
 use mathlib.Core.Path.{_≡_, refl, _∙_, ap, ap₂}
 use mathlib.Core.List.{List, [], _∷_, map}
@@ -6,10 +6,15 @@ use Rattle.iscc.specs.Answer.{Answer, accept, refuse, numberOf}
 use Rattle.loans.specs.Calls.{Call, issue, takeBack, ask, done, answers}
 use Rattle.loans.specs.Register.{changedArea, askedArea, callArea}
 use Rattle.loans.specs.Contents.{register, issueText, returnText}
+use Rattle.loans.specs.Replay.{Replayed, replayed, areaReplayed}
+use Rattle.loans.specs.PendingLog.{applyRecord, replayLog}
+use Rattle.loans.specs.Operations.{Operation, live, replay, perform}
+use Rattle.loans.specs.Operations as operations
 use Rattle.loans.proofs.Promises.{loans-register}
+use Rattle.loans.proofs.LogPromises.{pending-log}
 use Rattle.console.specs.declared.lending.HolderAnswer.{HolderAnswer}
-use Rattle.console.specs.Representation.{holderAnswerAs}
-use Rattle.console.specs.Loans.{told, left, allTold, ConsoleLoans}
+use Rattle.console.specs.Representation.{holderAnswerAs, replayAnswerAs}
+use Rattle.console.specs.Loans.{told, left, allTold, Heard, ofCall, ofReplay, heardAs, heard, leaves, allHeard, ConsoleLoans}
 
 -- a change tells its number, and no borrower
 change-told : {S : Type 0} (x : Answer S) → _≡_ {A = HolderAnswer} (record { number = numberOf x; borrower = 0 }) (holderAnswerAs (done x))
@@ -31,5 +36,36 @@ all-told [] area = refl
 all-told (k ∷ ks) area =
     ap₂ (λ (x : HolderAnswer) (xs : List HolderAnswer). x ∷ xs) (call-told k area) (ap (allTold ks) (call-left k area) ∙ all-told ks (callArea register k area .state))
 
+-- ---- with replays among the calls
+
+abbrev performed : Operation → List ℕ → operations.Performed (List ℕ)
+performed = perform (changedArea register) (askedArea register) (replayed register applyRecord)
+
+replay-heard : (x : Answer (Replayed (List ℕ))) (area : List ℕ) → ofReplay (replayAnswerAs x) ≡ heardAs (operations.ofReplay area x .told)
+replay-heard (accept y) area = refl
+replay-heard (refuse q) area = refl
+
+replay-leaves : (x : Answer (Replayed (List ℕ))) (area : List ℕ) → areaReplayed area x ≡ operations.ofReplay area x .state
+replay-leaves (accept y) area = refl
+replay-leaves (refuse q) area = refl
+
+is-heard : (w : Operation) (area : List ℕ) → heard w area ≡ heardAs (performed w area .told)
+is-heard (live k) area = ap (λ (x : HolderAnswer). ofCall x) (call-told k area)
+is-heard (replay log) area = replay-heard (replayLog log area) area
+
+is-left : (w : Operation) (area : List ℕ) → leaves w area ≡ performed w area .state
+is-left (live k) area = call-left k area
+is-left (replay log) area = replay-leaves (replayLog log area) area
+
+all-heard : (ws : List Operation) (area : List ℕ)
+    → allHeard ws area ≡ map heardAs (operations.allTold (changedArea register) (askedArea register) (replayed register applyRecord) ws area)
+all-heard [] area = refl
+all-heard (w ∷ ws) area =
+    ap₂ (λ (x : Heard) (xs : List Heard). x ∷ xs) (is-heard w area) (ap (allHeard ws) (is-left w area) ∙ all-heard ws (performed w area .state))
+
 pub console-loans : ConsoleLoans
-console-loans = record { asPlainMap = λ ks g. all-told ks _ ∙ ap (map holderAnswerAs) (loans-register .asPlainMap ks g) }
+console-loans =
+    record {
+      asPlainMap = λ ks g. all-told ks _ ∙ ap (map holderAnswerAs) (loans-register .asPlainMap ks g);
+      asMap = λ ws g. all-heard ws _ ∙ ap (map heardAs) (pending-log .asMap ws g);
+    }

@@ -1,19 +1,29 @@
 -- The numbers and lengths that C is told.
-use Prim.Native.Nat.{ℕ, _≤_}
-use mathlib.Core.Path.{_≡_, refl}
+use Prim.Native.Nat.{ℕ, _+_, _≤_}
+use mathlib.Core.Path.{_≡_, refl, sym, ap}
+use mathlib.Core.Bool.{Bool, true, false}
 use mathlib.Core.List.{List}
 use native.Mathlib.Omega.{arith}
-use Rattle.iscc.specs.Refusals.{Refusal}
-use Rattle.iscc.specs.Answer.{Answer, accept, refuse, numberOf}
+use lib.ListN.{length}
+use Rattle.iscc.specs.Refusals.{Refusal, notRegister}
+use Rattle.iscc.specs.Answer.{Answer, accept, refuse, Accepted, numberOf, _>>_, _otherwise_}
 use Rattle.iscc.specs.Doors.{strict}
 use Rattle.iscc.specs.Distance.{distance, Distance}
 use Rattle.iscc.specs.Representation.{writtenAs, outcomeAs}
 use Rattle.iscc.proofs.Numbers.{Numbered, number-table, number-0, outcome-number, outcome-length, intake-numbered, strict-numbered, distance-numbered, code-numbered, text-numbered, join-numbered, split-numbered}
 use Rattle.distance.specs.Representation.{measuredAs}
-use Rattle.loans.specs.Contents.{askText}
+use Rattle.iscc.proofs.Answer.{never, refuse-inj, value-of}
+use Rattle.loans.specs.Map.{Change}
+use Rattle.loans.specs.Contents.{isRegister, register, askText}
+use Rattle.loans.specs.Fields.{fieldBytes}
+use Rattle.loans.specs.Writer.{Written}
+use Rattle.loans.specs.Replay.{End, ended, torn, stopped, Replayed, replayFrom, inBytes, replayed}
+use Rattle.loans.specs.LogOrder.{stopOf}
+use Rattle.loans.specs.PendingLog.{recordOf, writeRecord, applyRecord, replayLog}
 use Rattle.loans.proofs.Promises.{loans-register}
-use Rattle.console.specs.Representation.{distanceAnswerAs, holderAnswerAs}
-use Rattle.console.specs.Numbers.{NumberFor, ToldOf, ConsoleNumbers}
+use Rattle.loans.proofs.LogPromises.{pending-log}
+use Rattle.console.specs.Representation.{distanceAnswerAs, holderAnswerAs, recordOutcome, endAnswer, replayAnswerAs}
+use Rattle.console.specs.Numbers.{NumberFor, ToldOf, notStopped, ConsoleNumbers}
 
 exact : {A : Type 0} (most : ℕ) (x : Answer A) → ((q : Refusal) → x ≡ refuse q → (1 ≤ q .number) × (q .number ≤ most)) → NumberFor most x (numberOf x)
 exact most x h = record { success = number-0 x (λ q e. h q e .0); table = go x h }
@@ -37,6 +47,47 @@ holder-number : (x : Answer ℕ) → holderAnswerAs x .number ≡ numberOf x
 holder-number (accept b) = refl
 holder-number (refuse q) = refl
 
+-- ---- the log
+
+record-number : (position : ℕ) (x : Answer Written) → recordOutcome position x .number ≡ numberOf x
+record-number position (accept w) = refl
+record-number position (refuse q) = refl
+
+record-length : (ch : Change) (log : List ℕ) (position : ℕ) → Accepted (writeRecord ch log position)
+    → recordOutcome position (writeRecord ch log position) .length ≡ length (fieldBytes (recordOf ch))
+record-length ch log position a =
+    let w = value-of (writeRecord ch log position) a in
+    let m : w .0 .position ≡ position + length (fieldBytes (recordOf ch)) = pending-log .appends ch log position (w .0) (w .1) .moved in
+    rw (w .1) (omega arith)
+
+end-number : (x : End) → endAnswer x .number ≡ numberOf (stopOf x)
+end-number ended = refl
+end-number (torn offset) = refl
+end-number (stopped q offset) = refl
+
+replay-number : (x : Answer (Replayed (List ℕ))) → replayAnswerAs x .number ≡ numberOf (notStopped x)
+replay-number (accept y) = end-number (y .end)
+replay-number (refuse q) = refl
+
+stopped-by : (x : End) (q : Refusal) → stopOf x ≡ refuse q → (offset : ℕ) × (x ≡ stopped q offset)
+stopped-by ended q e = absurd (never (sym e))
+stopped-by (torn offset) q e = absurd (never (sym e))
+stopped-by (stopped p offset) q e = (offset, ap (λ (r : Refusal). stopped r offset) (refuse-inj e))
+
+replay-numbers : (log area : List ℕ) (q : Refusal) → notStopped (replayLog log area) ≡ refuse q → (1 ≤ q .number) × (q .number ≤ 24)
+unfolding replayed
+replay-numbers log area q = go (isRegister area)
+  where
+    go : (v : Bool) → notStopped (v otherwise notRegister >> accept (inBytes register applyRecord (replayFrom applyRecord 0 log (register .contents area)))) ≡ refuse q
+        → (1 ≤ q .number) × (q .number ≤ 24)
+    go true e =
+        let s = stopped-by (replayFrom applyRecord 0 log (register .contents area) .end) q e in
+        let n = pending-log .stopNumber log area q (s .0) (s .1) in
+        (omega (arith, n .0), n .1)
+    go false e =
+        let n : 23 ≡ q .number = ap (λ (r : Refusal). r .number) (refuse-inj e) in
+        (omega arith, omega arith)
+
 pub console-numbers : ConsoleNumbers
 console-numbers =
     record {
@@ -49,5 +100,8 @@ console-numbers =
       issueTold = λ t b area. exact 23 _ (loans-register .numbers .issueNumber t b area);
       returnTold = λ t area. exact 23 _ (loans-register .numbers .returnNumber t area);
       askTold = λ t area. rw (holder-number (askText t area)) (exact 23 _ (loans-register .numbers .askNumber t area));
+      recordTold = λ ch log position. rw (record-number position (writeRecord ch log position)) (exact 24 _ (pending-log .writeNumber ch log position));
+      recordLength = record-length;
+      replayTold = λ log area. rw (replay-number (replayLog log area)) (exact 24 _ (replay-numbers log area));
       distanceTold = λ x y. rw (distance-number (distance x y)) (of-table (distance x y) (distance-numbered x y));
     }

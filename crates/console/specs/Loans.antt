@@ -1,15 +1,20 @@
--- What the register promises, over what the three entries tell C and leave in the area, as their contracts have it.
+-- What the register and its log promise, over what the entries tell C and leave in the area, as their contracts have it.
 -- proofs/Loans.antt proves it.
 use Prim.Native.Nat.{ℕ}
 use mathlib.Core.Path.{_≡_}
 use mathlib.Core.List.{List, [], _∷_, map}
-use Rattle.iscc.specs.Answer.{numberOf}
+use Rattle.iscc.specs.Answer.{accept, refuse, numberOf}
 use Rattle.loans.specs.Map.{mapChanged, mapAsked}
 use Rattle.loans.specs.Calls.{Call, issue, takeBack, ask, afterwards, answers}
 use Rattle.loans.specs.Contents.{emptyRegister, issueText, returnText, askText}
 use Rattle.loans.specs.Good.{GoodCalls}
+use Rattle.loans.specs.Replay.{replayFrom, areaReplayed}
+use Rattle.loans.specs.PendingLog.{applyToMap, replayLog}
+use Rattle.loans.specs.Operations.{Operation, live, replay, GoodOperations, Told, answered, ran}
+use Rattle.loans.specs.Operations as operations
 use Rattle.console.specs.declared.lending.HolderAnswer.{HolderAnswer}
-use Rattle.console.specs.Representation.{holderAnswerAs}
+use Rattle.console.specs.declared.logging.ReplayAnswer.{ReplayAnswer}
+use Rattle.console.specs.Representation.{holderAnswerAs, endAnswer, replayAnswerAs}
 
 -- what an entry tells; an issue and a return tell no borrower
 abbrev pub told : Call → List ℕ → HolderAnswer
@@ -27,6 +32,34 @@ abbrev pub allTold : List Call → List ℕ → List HolderAnswer
 allTold [] area = []
 allTold (k ∷ ks) area = told k area ∷ allTold ks (left k area)
 
+-- ---- with replays among the calls
+
+pub data Heard : Type 0 where
+  ofCall : HolderAnswer → Heard
+  ofReplay : ReplayAnswer → Heard
+
+-- what the definitions tell, as C hears it
+abbrev pub heardAs : Told → Heard
+heardAs (answered x) = ofCall (holderAnswerAs x)
+heardAs (ran (accept e)) = ofReplay (endAnswer e)
+heardAs (ran (refuse q)) = ofReplay (record { number = q .number; end = 0; offset = 0 })
+
+-- what an operation's entry tells, and the area after it
+abbrev pub heard : Operation → List ℕ → Heard
+heard (live k) area = ofCall (told k area)
+heard (replay log) area = ofReplay (replayAnswerAs (replayLog log area))
+
+abbrev pub leaves : Operation → List ℕ → List ℕ
+leaves (live k) area = left k area
+leaves (replay log) area = areaReplayed area (replayLog log area)
+
+abbrev pub allHeard : List Operation → List ℕ → List Heard
+allHeard [] area = []
+allHeard (w ∷ ws) area = heard w area ∷ allHeard ws (leaves w area)
+
 pub record ConsoleLoans : Type 0 where
   -- "Over any calls from an empty register, written by them alone, the answers are those of a plain map of at most 256 codes."
   pub asPlainMap : (ks : List Call) → GoodCalls ks → allTold ks emptyRegister ≡ map holderAnswerAs (answers mapChanged mapAsked ks [])
+  -- "Over any calls and replays, in any turn, from an empty register, written by them alone, all that is told is what a plain map tells."
+  pub asMap : (ws : List Operation) → GoodOperations ws
+      → allHeard ws emptyRegister ≡ map heardAs (operations.allTold mapChanged mapAsked (λ log m. accept (replayFrom applyToMap 0 log m)) ws [])

@@ -4,7 +4,8 @@ use Prim.Native.Nat.{ℕ, _≤_}
 use mathlib.Core.Path.{_≡_}
 use mathlib.Core.Logic.{_↔_}
 use mathlib.Core.List.{List}
-use Rattle.iscc.specs.Answer.{Answer, Accepted, numberOf, written}
+use lib.ListN.{length}
+use Rattle.iscc.specs.Answer.{Answer, Accepted, numberOf, written, _>>=_}
 use Rattle.iscc.specs.Digits.{Below}
 use Rattle.iscc.specs.Items.{join, split}
 use Rattle.iscc.specs.Doors.{intake, strict, readCode, writeText}
@@ -12,8 +13,13 @@ use Rattle.iscc.specs.Distance.{distance}
 use Rattle.iscc.specs.Representation.{writtenAs, outcomeAs}
 use Rattle.iscc.specs.declared.written.Outcome.{Outcome}
 use Rattle.distance.specs.Representation.{measuredAs}
+use Rattle.loans.specs.Map.{Change}
 use Rattle.loans.specs.Contents.{issueText, returnText, askText}
-use Rattle.console.specs.Representation.{distanceAnswerAs, holderAnswerAs}
+use Rattle.loans.specs.Fields.{fieldBytes}
+use Rattle.loans.specs.Replay.{Replayed}
+use Rattle.loans.specs.LogOrder.{stopOf}
+use Rattle.loans.specs.PendingLog.{recordOf, writeRecord, replayLog}
+use Rattle.console.specs.Representation.{distanceAnswerAs, holderAnswerAs, recordOutcome, replayAnswerAs}
 
 -- a number that is 0 exactly where the definition accepts, and else one of the table up to the given one
 pub record NumberFor {A : Type 0} (most : ℕ) (x : Answer A) (number : ℕ) : Type 0 where
@@ -24,6 +30,12 @@ pub record NumberFor {A : Type 0} (most : ℕ) (x : Answer A) (number : ℕ) : T
 pub record ToldOf (x : Answer (List ℕ)) (o : Outcome) : Type 0 where
   pub number : NumberFor 19 x (o .number)
   pub length : o .length ≡ written x
+
+-- a replay as an answer: refused by 23, or by the record that stops it; a tear is no refusal
+abbrev pub notStopped : Answer (Replayed (List ℕ)) → Answer (Unit {0})
+notStopped x = do
+  y ← x
+  stopOf (y .end)
 
 pub record ConsoleNumbers : Type 0 where
   pub intakeTold : (t : List ℕ) (area : ℕ) → ToldOf (intake t area) (outcomeAs (writtenAs (intake t area)))
@@ -37,3 +49,9 @@ pub record ConsoleNumbers : Type 0 where
   pub issueTold : (t : List ℕ) (b : ℕ) (area : List ℕ) → NumberFor 23 (issueText t b area) (numberOf (issueText t b area))
   pub returnTold : (t area : List ℕ) → NumberFor 23 (returnText t area) (numberOf (returnText t area))
   pub askTold : (t area : List ℕ) → NumberFor 23 (askText t area) (holderAnswerAs (askText t area) .number)
+  -- those of the log, which have 24 too: a record's length is told,
+  pub recordTold : (ch : Change) (log : List ℕ) (position : ℕ) → NumberFor 24 (writeRecord ch log position) (recordOutcome position (writeRecord ch log position) .number)
+  pub recordLength : (ch : Change) (log : List ℕ) (position : ℕ) → Accepted (writeRecord ch log position)
+      → recordOutcome position (writeRecord ch log position) .length ≡ length (fieldBytes (recordOf ch))
+  -- and a number that is 0 exactly where no record stopped the replay and the area was a register
+  pub replayTold : (log area : List ℕ) → NumberFor 24 (notStopped (replayLog log area)) (replayAnswerAs (replayLog log area) .number)

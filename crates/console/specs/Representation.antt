@@ -1,8 +1,14 @@
 -- The C entries' answers as representations of the definitions' values.
-use Prim.Native.Nat.{ℕ}
+use Prim.Native.Nat.{ℕ, _-_}
+use mathlib.Core.List.{List}
 use Rattle.iscc.specs.Answer.{Answer, accept, refuse}
+use Rattle.iscc.specs.declared.written.Outcome.{Outcome}
+use Rattle.loans.specs.Writer.{Written}
+use Rattle.loans.specs.Replay.{ended, torn, stopped, End, Replayed}
 use Rattle.distance.specs.declared.answer.Measured.{Measured}
+use Rattle.log.specs.declared.append.Appended.{Appended}
 use Rattle.console.specs.declared.lending.HolderAnswer.{HolderAnswer}
+use Rattle.console.specs.declared.logging.ReplayAnswer.{ReplayAnswer}
 use Rattle.console.specs.declared.distances.DistanceAnswer.{DistanceAnswer}
 
 abbrev pub distanceAnswerAs : Measured → DistanceAnswer
@@ -12,3 +18,22 @@ distanceAnswerAs m = record { number = m .number; d = m .distance .d; n = m .dis
 abbrev pub holderAnswerAs : Answer ℕ → HolderAnswer
 holderAnswerAs (accept b) = record { number = 0; borrower = b }
 holderAnswerAs (refuse q) = record { number = q .number; borrower = 0 }
+
+-- a record appended: the number, and the length that the position moved on; a refusal has length 0
+abbrev pub movedOn : ℕ → Appended → Outcome
+movedOn position a = record { number = a .number; length = a .position - position }
+
+abbrev pub recordOutcome : ℕ → Answer Written → Outcome
+recordOutcome position (accept w) = record { number = 0; length = w .position - position }
+recordOutcome position (refuse q) = record { number = q .number; length = 0 }
+
+-- how a replay ended, by a mark: 1 to the log's end, 2 torn, 3 stopped
+abbrev pub endAnswer : End → ReplayAnswer
+endAnswer ended = record { number = 0; end = 1; offset = 0 }
+endAnswer (torn offset) = record { number = 0; end = 2; offset = offset }
+endAnswer (stopped q offset) = record { number = q .number; end = 3; offset = offset }
+
+-- 23 has zeros: nothing was replayed
+abbrev pub replayAnswerAs : Answer (Replayed (List ℕ)) → ReplayAnswer
+replayAnswerAs (accept x) = endAnswer (x .end)
+replayAnswerAs (refuse q) = record { number = q .number; end = 0; offset = 0 }

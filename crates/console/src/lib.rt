@@ -4,4 +4,5 @@ pub mod composites;
 pub mod distances;
 pub mod doors;
 pub mod lending;
+pub mod logging;
 pub mod version;

@@ -103,6 +103,10 @@ notOut = refusal 22
 abbrev pub notRegister : Refusal
 notRegister = refusal 23
 
+-- no record of the log: another tag, or code bytes that are not exactly one unit or composite
+abbrev pub notRecord : Refusal
+notRecord = refusal 24
+
 -- the table, in its order
 abbrev pub refusals : List Refusal
 refusals =
@@ -129,4 +133,5 @@ refusals =
     ∷ allOut
     ∷ notOut
     ∷ notRegister
+    ∷ notRecord
     ∷ []

@@ -77,8 +77,11 @@ impl Refusal {
     // The area is not a register.
     pub const NOT_REGISTER: Refusal = Refusal { number: 23 };
 
+    // No record of the log: another tag, or code bytes that are not exactly one unit or composite.
+    pub const NOT_RECORD: Refusal = Refusal { number: 24 };
+
     // Every refusal in the order of the table: ties the names above to those of the definitions.
-    pub fn all() -> [Refusal; 23]
+    pub fn all() -> [Refusal; 24]
         ensures { λ r. ⌜ r ≡ refusals ⌝ }
     {
         [
@@ -105,6 +108,7 @@ impl Refusal {
             Refusal::ALL_OUT,
             Refusal::NOT_OUT,
             Refusal::NOT_REGISTER,
+            Refusal::NOT_RECORD,
         ]
     }
 }

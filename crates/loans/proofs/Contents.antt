@@ -9,6 +9,7 @@ use lib.ListN.{length}
 use lib.Seq.{take-all}
 use lib.Dec.{eqb}
 use borrow.Author.Tests.{eq-eqb, eqb-true, not-true}
+use Rattle.iscc.specs.Answer.{Answer, accept, refuse}
 use Rattle.iscc.specs.Digits.{Below}
 use Rattle.iscc.proofs.Booleans.{both-true}
 use Rattle.loans.specs.Loan.{Loan, find, isOut, without}
@@ -172,6 +173,17 @@ cleared-kept c ps g = (
 
 pub register-changes : (ch : Change) (ps : Contents) (m : List Loan) → GoodChange ch → HeldContents ps m → Both HeldContents (applied ch ps) (mapChanged ch m)
 register-changes ch ps m g h = agrees loansIn put cleared GoodContents (λ qs k. k .distinct) put-kept cleared-kept ps m h ch g
+
+-- a change leaves good contents
+pub applied-good : (ch : Change) (ps ps′ : Contents) → GoodChange ch → GoodContents ps → applied ch ps ≡ accept ps′ → GoodContents ps′
+applied-good ch ps ps′ g h e =
+    go (mapChanged ch (loansIn ps))
+    (subst (λ (x : Answer Contents). Both HeldContents x (mapChanged ch (loansIn ps))) e
+    (register-changes ch ps (loansIn ps) g (record { good = h; same = same-refl (loansIn ps); distinct = h .distinct })))
+  where
+    go : (y : Answer (List Loan)) → Both HeldContents (accept ps′) y → GoodContents ps′
+    go (accept m) b = b .good
+    go (refuse q) b = absurd b
 
 pub register-asks : (c : List ℕ) (ps : Contents) (m : List Loan) → HeldContents ps m → mapAsked c (loansIn ps) ≡ mapAsked c m
 unfolding mapAsked

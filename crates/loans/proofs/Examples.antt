@@ -15,10 +15,14 @@ use Rattle.loans.specs.Loan.{oneCode, find, without}
 use Rattle.loans.specs.Map.{changeWith}
 use Rattle.loans.specs.Place.{zeros, placeBytes, placeOf, isPlace, loansIn}
 use Rattle.loans.specs.Contents.{put, cleared, allDistinct}
+use Rattle.loans.specs.Fields.{fieldBytes, firstSize, firstIsWhole, firstField}
+use Rattle.loans.specs.Log.{recordsUpTo, recordsFrom}
+use Rattle.loans.specs.Replay.{replayAll}
+use Rattle.loans.specs.Records.{isRecord, changeOf, applyChange}
 use Rattle.loans.specs.Examples.{Examples}
 
 pub examples : Examples
-unfolding digits value allBelow byteCount spareCount fromDigits upper indexOf digitIn decode base32 firstOf prefixOf rowOf rowBy varnibble readVarnibble nibbles packed headerBytes readHeader typeOf mainTypeOf sets setOf unitTypes compositeSubtype row bodyBytes itemBytes readItem readOne cut compositeOf meaningAs unitLengthNumber flatten itemOf readUpTo readItems every pairwise bodyIn subtypeIn subtypeOf compositeFrom meaningOfItems isBlank trimStart trimEnd sameBytes scheme schemeLength dropHyphens trimmed behindScheme cleaned decodeRun payload itemsOfText meaningOfText codeBytes oneCode find without zeros placeBytes placeOf isPlace loansIn put cleared allDistinct changeWith
+unfolding digits value allBelow byteCount spareCount fromDigits upper indexOf digitIn decode base32 firstOf prefixOf rowOf rowBy varnibble readVarnibble nibbles packed headerBytes readHeader typeOf mainTypeOf sets setOf unitTypes compositeSubtype row bodyBytes itemBytes readItem readOne cut compositeOf meaningAs unitLengthNumber flatten itemOf readUpTo readItems every pairwise bodyIn subtypeIn subtypeOf compositeFrom meaningOfItems isBlank trimStart trimEnd sameBytes scheme schemeLength dropHyphens trimmed behindScheme cleaned decodeRun payload itemsOfText meaningOfText codeBytes oneCode find without zeros placeBytes placeOf isPlace loansIn put cleared allDistinct changeWith fieldBytes firstSize firstIsWhole firstField recordsUpTo recordsFrom replayAll isRecord changeOf applyChange
 examples =
     record {
       place = refl;
@@ -39,4 +43,17 @@ examples =
       typedApart = refl;
       typedSmall = refl;
       typedAround = refl;
+      labelWritten = refl;
+      cutAt0 = refl;
+      cutAt24 = refl;
+      cutAt25 = refl;
+      cutAt26 = refl;
+      cutAt46 = refl;
+      twoBytes = refl;
+      lengthDamaged = refl;
+      zerosWhole = refl;
+      zerosNoRecord = refl;
+      otherTag = refl;
+      issueShort = refl;
+      issuedTwice = refl;
     }

@@ -12,4 +12,16 @@ pub mod Entries
 pub mod Numbers
 pub mod Writes
 pub mod Promises
+pub mod Fields
+pub mod Tears
+pub mod Cuts
+pub mod Replay
+pub mod Records
+pub mod Performed
+pub mod PendingLog
+pub mod LogOrder
+pub mod Settled
+pub mod ReadBack
+pub mod LiveRun
+pub mod LogPromises
 pub mod Examples

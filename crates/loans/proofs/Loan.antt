@@ -6,7 +6,7 @@ use mathlib.Core.Option.{none, some}
 use mathlib.Core.List.{List, [], _∷_}
 use native.Mathlib.Omega.{arith}
 use lib.ListN.{length}
-use Rattle.iscc.specs.Answer.{Answer, accept, refuse}
+use Rattle.iscc.specs.Answer.{Answer, accept, refuse, isAccepted}
 use Rattle.iscc.specs.Digits.{Below}
 use Rattle.iscc.specs.Item.{Item, itemBytes, itemOf, readOne, meaningOf}
 use Rattle.iscc.specs.Lists.{sameBytes}
@@ -17,7 +17,7 @@ use Rattle.iscc.proofs.Item.{PermittedItem, length-item, item-most, item-below}
 use Rattle.iscc.proofs.Split.{read-one, one-read}
 use Rattle.iscc.proofs.Meaning.{item-permitted, meant-item, item-back}
 use Rattle.iscc.proofs.Doors.{meant, back}
-use Rattle.loans.specs.Loan.{Loan, isAccepted, oneCode, find, isSome, isOut, without}
+use Rattle.loans.specs.Loan.{Loan, oneCode, find, isSome, isOut, without}
 use Rattle.loans.specs.Good.{IsCode, Distinct}
 
 -- ---- codes

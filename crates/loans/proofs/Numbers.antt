@@ -13,7 +13,7 @@ use Rattle.iscc.specs.Answer.{Answer, accept, refuse, _>>=_, _>>_, _otherwise_}
 use Rattle.iscc.specs.Doors.{codeBytes, readCode}
 use Rattle.iscc.proofs.Answer.{refuse-inj, bind-refused, never}
 use Rattle.iscc.proofs.Numbers.{code-numbered, number-table}
-use Rattle.loans.specs.Loan.{Loan, loanOf, isOut}
+use Rattle.loans.specs.Loan.{Loan, isOut}
 use Rattle.loans.specs.Map.{Change, issueCode, returnCode, changeWith, holderOf}
 use Rattle.loans.specs.Calls.{Call, issue, takeBack, ask, resultOf, issued, returned, borrowerOf}
 use Rattle.loans.specs.Register.{Register, changedArea, askedArea, callArea}
@@ -26,6 +26,12 @@ Within n m q = (n ≤ q .number) × (q .number ≤ m)
 within-as : {A : Type 0} (n m : ℕ) (p q : Refusal) → Within n m p → _≡_ {A = Answer A} (refuse p) (refuse q) → Within n m q
 within-as n m p q w e = subst (Within n m) (refuse-inj e) w
 
+-- a test's number, and those of the rest
+pub test-numbers : {A : Type 0} (n m : ℕ) (k : Refusal) (b : Bool) (x : Answer A) (q : Refusal) → Within n m k → ((p : Refusal) → x ≡ refuse p → Within n m p)
+    → (b otherwise k >> x) ≡ refuse q → Within n m q
+test-numbers n m k true x q w f e = f q e
+test-numbers n m k false x q w f e = within-as n m k q w e
+
 pub text-numbers : (t : List ℕ) (q : Refusal) → codeBytes t ≡ refuse q → Within 1 19 q
 text-numbers t q e = number-table (readCode t 42) (code-numbered t 42) q (read-is t ∙ e)
 
@@ -34,17 +40,11 @@ text-numbers t q e = number-table (readCode t 42) (code-numbered t 42) q (read-i
 pub change-numbers : {S : Type 0} (loans : S → List Loan) (put : Loan → S → S) (cleared : List ℕ → S → S) (ch : Change) (s : S) (q : Refusal)
     → changeWith loans put cleared ch s ≡ refuse q → Within 20 22 q
 unfolding changeWith
-change-numbers loans put cleared (issueCode c b) s q e = go (isOut c (loans s)) (ltb (length (loans s)) 256) e
-  where
-    go : (o f : Bool) → (not o otherwise alreadyOut >> (f otherwise allOut >> accept (put (loanOf c b) s))) ≡ refuse q → Within 20 22 q
-    go true f e = within-as 20 22 alreadyOut q (omega arith, omega arith) e
-    go false false e = within-as 20 22 allOut q (omega arith, omega arith) e
-    go false true e = absurd (never (sym e))
-change-numbers loans put cleared (returnCode c) s q e = go (isOut c (loans s)) e
-  where
-    go : (o : Bool) → (o otherwise notOut >> accept (cleared c s)) ≡ refuse q → Within 20 22 q
-    go true e = absurd (never (sym e))
-    go false e = within-as 20 22 notOut q (omega arith, omega arith) e
+change-numbers loans put cleared (issueCode c b) s q e =
+    test-numbers 20 22 alreadyOut (not (isOut c (loans s))) _ q (omega arith, omega arith)
+    (λ p. test-numbers 20 22 allOut (ltb (length (loans s)) 256) _ p (omega arith, omega arith) (λ r d. absurd (never (sym d)))) e
+change-numbers loans put cleared (returnCode c) s q e =
+    test-numbers 20 22 notOut (isOut c (loans s)) _ q (omega arith, omega arith) (λ p d. absurd (never (sym d))) e
 
 pub answer-numbers : (o : Option ℕ) (q : Refusal) → holderOf o ≡ refuse q → Within 20 22 q
 answer-numbers none q e = within-as 20 22 notOut q (omega arith, omega arith) e
@@ -57,8 +57,7 @@ module _ {S : Type 0} (r : Register S) (own : (ch : Change) (s : S) (q : Refusal
   -- behind the test of the area
   tested : {A : Type 0} (b : Bool) (x : Answer A) (q : Refusal) → ((p : Refusal) → x ≡ refuse p → Within 20 22 p) → (b otherwise notRegister >> x) ≡ refuse q
       → Within 20 23 q
-  tested true x q f e = let w = f q e in (w .0, omega (arith, w .1))
-  tested false x q f e = within-as 20 23 notRegister q (omega arith, omega arith) e
+  tested b x q f e = test-numbers 20 23 notRegister b x q (omega arith, omega arith) (λ p d. let w = f p d in (w .0, omega (arith, w .1))) e
 
   own-bytes : (ch : Change) (q : Refusal) → (r .changes ch (r .contents area) >>= λ s. accept (r .bytes s)) ≡ refuse q → Within 20 22 q
   own-bytes ch q e =

@@ -4,7 +4,8 @@ use mathlib.Core.Path.{_≡_}
 use mathlib.Core.Bool.{true, false}
 use mathlib.Core.Option.{none, some}
 use mathlib.Core.List.{List, [], _∷_, _++_}
-use Rattle.iscc.specs.Refusals.{alreadyOut, notOut}
+use lib.ListN.{take}
+use Rattle.iscc.specs.Refusals.{alreadyOut, notOut, notRecord}
 use Rattle.iscc.specs.Answer.{accept, refuse}
 use Rattle.iscc.specs.Ascii.{ascii}
 use Rattle.iscc.specs.Doors.{codeBytes}
@@ -12,6 +13,10 @@ use Rattle.loans.specs.Loan.{loanOf}
 use Rattle.loans.specs.Map.{issueCode, returnCode}
 use Rattle.loans.specs.Place.{zeros, placeBytes, placeOf, isPlace}
 use Rattle.loans.specs.Contents.{applied, allDistinct}
+use Rattle.loans.specs.Fields.{Field, fieldBytes}
+use Rattle.loans.specs.Log.{Record, Records, recordsFrom}
+use Rattle.loans.specs.Replay.{stopped, replayFrom}
+use Rattle.loans.specs.PendingLog.{recordOf, applyRecord}
 
 -- two META units of 32 bits
 abbrev pub one : List ℕ
@@ -23,6 +28,26 @@ two = 0 ∷ 0 ∷ 1 ∷ 2 ∷ 3 ∷ 5 ∷ []
 -- the DATA and INSTANCE units of the first label, as a composite
 abbrev pub label : List ℕ
 label = 0x55 ∷ 0 ∷ 0x6D ∷ 0x3E ∷ 0x22 ∷ 0x8C ∷ 0xBA ∷ 0xB6 ∷ 0xD7 ∷ 0x35 ∷ 0x4A ∷ 0x80 ∷ 0x50 ∷ 0x55 ∷ 0xC9 ∷ 0xBA ∷ 0xF3 ∷ 0x96 ∷ []
+
+-- "The first label of Labels, issued to borrower 258 and then taken back"
+abbrev pub labelOut : Field
+labelOut = recordOf (issueCode label 258)
+
+abbrev pub labelBack : Field
+labelBack = recordOf (returnCode label)
+
+abbrev pub labelLog : List ℕ
+labelLog = (1 ∷ 0 ∷ 0x16 ∷ 0 ∷ 0 ∷ 1 ∷ 2 ∷ label) ++ (2 ∷ 0 ∷ 0x12 ∷ label)
+
+-- records, each with its offset, and no tear; or a tear behind them
+abbrev pub recordAt : ℕ → Field → Record
+recordAt offset f = record { offset = offset; field = f }
+
+abbrev pub untorn : List Record → Records
+untorn rs = record { whole = rs; tear = none }
+
+abbrev pub tornAt : ℕ → List Record → Records
+tornAt offset rs = record { whole = rs; tear = some offset }
 
 pub record Examples : Type 0 where
   pub place : placeBytes (some (loanOf one 258)) ≡ 6 ∷ one ++ zeros 37 ++ (0 ∷ 0 ∷ 1 ∷ 2 ∷ [])
@@ -44,3 +69,21 @@ pub record Examples : Type 0 where
   pub typedApart : codeBytes (ascii "GAAW2PRCRS5LNVZV-IAAUVACQKXE3V44W") ≡ accept label
   pub typedSmall : codeBytes (ascii "iscc:kuag2prcrs5lnvzvjkafavojxlzzm") ≡ accept label
   pub typedAround : codeBytes (ascii "iaauvacqkxe3v44w-gaaw2prcrs5lnvzv") ≡ accept label
+  -- the log of the label, and its cuts: before it, one byte before the first record's end, there, one byte later, and all of it
+  pub labelWritten : fieldBytes labelOut ++ fieldBytes labelBack ≡ labelLog
+  pub cutAt0 : recordsFrom 0 (take 0 labelLog) ≡ untorn []
+  pub cutAt24 : recordsFrom 0 (take 24 labelLog) ≡ tornAt 0 []
+  pub cutAt25 : recordsFrom 0 (take 25 labelLog) ≡ untorn (recordAt 0 labelOut ∷ [])
+  pub cutAt26 : recordsFrom 0 (take 26 labelLog) ≡ tornAt 25 (recordAt 0 labelOut ∷ [])
+  pub cutAt46 : recordsFrom 0 (take 46 labelLog) ≡ untorn (recordAt 0 labelOut ∷ recordAt 25 labelBack ∷ [])
+  -- "One byte or two are a tear too, and so is a record whose length, damaged, reaches past the end of the log."
+  pub twoBytes : recordsFrom 0 (2 ∷ 0 ∷ []) ≡ tornAt 0 []
+  pub lengthDamaged : recordsFrom 0 (take 25 labelLog ++ 2 ∷ 0 ∷ 0x13 ∷ label) ≡ tornAt 25 (recordAt 0 labelOut ∷ [])
+  -- "Zeros behind it would be read as a record of tag 0 and length 0, which is 24."
+  pub zerosWhole : recordsFrom 0 (zeros 3) ≡ untorn (recordAt 0 (record { tag = 0; body = [] }) ∷ [])
+  pub zerosNoRecord : applyRecord (record { tag = 0; body = [] }) (none ∷ []) ≡ refuse notRecord
+  pub otherTag : applyRecord (record { tag = 3; body = label }) (none ∷ []) ≡ refuse notRecord
+  pub issueShort : applyRecord (record { tag = 1; body = 0 ∷ 0 ∷ 1 ∷ [] }) (none ∷ []) ≡ refuse notRecord
+  -- one code issued twice: the first stays applied
+  pub issuedTwice : replayFrom applyRecord 0 (fieldBytes labelOut ++ fieldBytes (recordOf (issueCode label 1)) ++ fieldBytes labelBack) (none ∷ none ∷ [])
+      ≡ record { state = some (loanOf label 258) ∷ none ∷ []; end = stopped alreadyOut 25 }

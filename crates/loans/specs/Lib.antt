@@ -1,4 +1,4 @@
--- The loans register as definitions, and what is promised of it.
+-- The loans register and its log as definitions, and what is promised of them.
 pub mod Loan
 pub mod Map
 pub mod Calls
@@ -9,4 +9,14 @@ pub mod Good
 pub mod RefusalOrder
 pub mod Moves
 pub mod Promises
+pub mod Fields
+pub mod Log
+pub mod Replay
+pub mod Writer
+pub mod Tears
+pub mod Records
+pub mod PendingLog
+pub mod LogOrder
+pub mod Operations
+pub mod LogPromises
 pub mod Examples

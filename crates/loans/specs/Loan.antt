@@ -3,7 +3,7 @@ use Prim.Native.Nat.{ℕ}
 use mathlib.Core.Bool.{Bool, true, false, cond}
 use mathlib.Core.Option.{Option, none, some}
 use mathlib.Core.List.{List, [], _∷_}
-use Rattle.iscc.specs.Answer.{Answer, accept, refuse}
+use Rattle.iscc.specs.Answer.{isAccepted}
 use Rattle.iscc.specs.Item.{readOne}
 use Rattle.iscc.specs.Lists.{sameBytes}
 
@@ -13,11 +13,6 @@ pub record Loan : Type 0 where
 
 abbrev pub loanOf : List ℕ → ℕ → Loan
 loanOf c b = record { code = c; borrower = b }
-
--- whether an answer is no refusal
-abbrev pub isAccepted : {A : Type 0} → Answer A → Bool
-isAccepted (accept a) = true
-isAccepted (refuse q) = false
 
 -- the bytes are "exactly one item"
 unfoldable pub oneCode : List ℕ → Bool

@@ -1,4 +1,4 @@
-// The register's layout: 256 places of 48 bytes.
+// The layout of register and log. The register: 256 places of 48 bytes.
 
 // How many places there are.
 pub const PLACES: usize = 256;
@@ -14,3 +14,14 @@ pub const CODE_OFFSET: usize = 1;
 
 // The borrower's offset in a place, behind the code's 42 bytes and the zero byte.
 pub const BORROWER_OFFSET: usize = 44;
+
+// The log's layout: the tag of an issue and of a return.
+pub const ISSUE_TAG: u8 = 1;
+
+pub const RETURN_TAG: u8 = 2;
+
+// What stands before a record's body: the tag, and two bytes of length.
+pub const HEAD_LENGTH: usize = 3;
+
+// The borrower in an issue's body, before the code.
+pub const BORROWER_LENGTH: usize = 4;

@@ -1,4 +1,4 @@
--- The tests of a code and of a place as branches and a loop make them, and a place made of its parts.
+-- The tests of a place as branches and a loop make them, and a place made of its parts.
 use Prim.Native.Nat.{ℕ, zero, suc, _+_, _-_, _≤_, _<_}
 use mathlib.Core.Path.{_≡_, refl, sym, _∙_, ap}
 use mathlib.Core.Bool.{Bool, true, false, _&&_, and-false}
@@ -9,37 +9,10 @@ use lib.ListN.{length, getD, take, drop, drop-of-length-le}
 use lib.Seq.{drop-cons, drop-drop, take-all}
 use lib.Dec.{eqb}
 use borrow.Author.Tests.{lt-ltb, le-ltb, eq-eqb, ne-eqb, le-leb, lt-leb}
-use Rattle.iscc.specs.Answer.{Answer, accept, refuse}
 use Rattle.iscc.specs.Digits.{allBelow}
-use Rattle.iscc.specs.Item.{Item, readOne}
-use Rattle.iscc.specs.Refusals.{Refusal}
 use Rattle.iscc.proofs.Parts.{drop-take}
-use Rattle.unit.specs.declared.reader.Unit as unit
-use Rattle.unit.specs.declared.reader.UnitRead.{UnitRead}
-use Rattle.unit.specs.declared.reader.UnitRead.the-variants as read
-use Rattle.unit.specs.Representation.{oneReadAs}
-use Rattle.loans.specs.Loan.{isAccepted, oneCode}
+use Rattle.loans.specs.Loan.{oneCode}
 use Rattle.loans.specs.Place.{isPlace}
-
--- ---- exactly one unit or composite
-
-abbrev isUnit : UnitRead → Bool
-isUnit (read.Unit u) = true
-isUnit (read.Refused q) = false
-
-one-is : (bs : List ℕ) → isUnit (oneReadAs bs (readOne bs)) ≡ oneCode bs
-unfolding oneCode
-one-is bs = go (readOne bs)
-  where
-    go : (x : Answer Item) → isUnit (oneReadAs bs x) ≡ isAccepted x
-    go (accept i) = refl
-    go (refuse q) = refl
-
-pub one-accepted : (bs : List ℕ) (r : UnitRead) (u : unit.Unit) → r ≡ oneReadAs bs (readOne bs) → r ≡ read.Unit u → true ≡ oneCode bs
-one-accepted bs r u e f = ap isUnit (sym f ∙ e) ∙ one-is bs
-
-pub one-refused : (bs : List ℕ) (r : UnitRead) (q : Refusal) → r ≡ oneReadAs bs (readOne bs) → r ≡ read.Refused q → false ≡ oneCode bs
-one-refused bs r q e f = ap isUnit (sym f ∙ e) ∙ one-is bs
 
 -- ---- zeros, by the largest m of the first i bytes
 

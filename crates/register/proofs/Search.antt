@@ -1,5 +1,5 @@
 -- The search for a code and for a free place: what is left of it from a place on.
-use Prim.Native.Nat.{ℕ, suc, _+_, _-_, _*_, _≤_, _<_}
+use Prim.Native.Nat.{ℕ, zero, suc, _+_, _-_, _*_, _≤_, _<_}
 use mathlib.Core.Path.{_≡_, refl, sym, _∙_, ap}
 use mathlib.Core.Bool.{Bool, true, false, _&&_}
 use mathlib.Core.Option.{none}
@@ -7,11 +7,13 @@ use mathlib.Core.List.{List}
 use native.Mathlib.Numerals.{add-one}
 use native.Mathlib.Omega.{arith}
 use lib.ListN.{length, getD, take, drop, length-take, length-drop}
-use lib.Seq.{drop-cons, drop-length}
+use lib.Seq.{drop-cons, drop-length, getD-take, getD-drop}
 use Rattle.iscc.specs.Lists.{sameBytes}
 use Rattle.loans.specs.Place.{isPlace, placesOf, arePlaces}
 use Rattle.loans.specs.Contents.{Contents}
 use Rattle.loans.specs.Moves.{holdsCode, placeOfCode, lowestFree}
+use Rattle.register.specs.Search.{CodeLeft}
+use Rattle.loans.proofs.Loan.{differ}
 use Rattle.loans.proofs.Places.{places-on}
 use Rattle.loans.proofs.PlaceAt.{count-places, length-short, is-free, is-used, not-free}
 
@@ -21,12 +23,40 @@ module _ (area : List ℕ) (i n : ℕ) (p : (length area ≡ 12288) × (arePlace
   pub code-fits : 48 * i + 1 + n ≤ length area
   code-fits = omega (arith, p .0, p .2, length-short area i (p .0) (p .2) (p .1))
 
+  pub last-fits : 48 * i + n < length area
+  last-fits = omega (arith, code-fits)
+
   pub holds-free : (c : List ℕ) → n ≡ 0 → false ≡ holdsCode c (getD (placesOf 256 area) i none)
   holds-free c z = sym (ap (holdsCode c) (is-free area i (p .0) (p .2) (sym e ∙ z)))
+
+  -- the code of a used place
+  abbrev code : List ℕ
+  code = take (48 * i + 1 + n - (48 * i + 1)) (drop (48 * i + 1) area)
 
   pub holds-used : (c : List ℕ) → (n ≡ 0 → ⊥) → (r : Bool) → r ≡ sameBytes c (take (48 * i + 1 + n - (48 * i + 1)) (drop (48 * i + 1) area))
       → r ≡ holdsCode c (getD (placesOf 256 area) i none)
   holds-used c z r q = q ∙ sym (ap (holdsCode c) (is-used area i (p .0) (p .2) (p .1) n e z .1))
+
+  pub holds-other : (c : List ℕ) → (n ≡ length c → ⊥) → false ≡ holdsCode c (getD (placesOf 256 area) i none)
+  holds-other c z = go n refl
+    where
+      size : length code ≡ n
+      size = simp (length-take, length-drop) (omega (arith, code-fits))
+
+      go : (m : ℕ) → n ≡ m → false ≡ holdsCode c (getD (placesOf 256 area) i none)
+      go zero w = holds-free c w
+      go (suc m) w = holds-used c (λ y. omega (arith, y, w)) false (sym (differ c code (λ q. z (sym size ∙ sym (ap length q)))))
+
+  pub holds-last : (c : List ℕ) → (n ≡ 0 → ⊥) → (getD area (48 * i + n) 0 ≡ getD c (n - 1) 0 → ⊥) → false ≡ holdsCode c (getD (placesOf 256 area) i none)
+  holds-last c z y = holds-used c z false (sym (differ c code (λ q. y (sym last ∙ sym (ap (λ (l : List ℕ). getD l (n - 1) 0) q)))))
+    where
+      k : 48 * i + 1 + (n - 1) ≡ 48 * i + n
+      k = omega (arith, z)
+
+      last : getD code (n - 1) 0 ≡ getD area (48 * i + n) 0
+      last =
+          getD-take (48 * i + 1 + n - (48 * i + 1)) (drop (48 * i + 1) area) (n - 1) 0 (omega (arith, z))
+          ∙ getD-drop (48 * i + 1) area (n - 1) 0 ∙ ap (λ (j : ℕ). getD area j 0) k
 
 -- ---- the test of all places
 
@@ -57,9 +87,6 @@ places-all area i inv h =
 
 -- ---- the search for a code from a place on
 
-abbrev pub CodeLeft : List ℕ → List ℕ → ℕ → ℕ → Type 0
-CodeLeft area c from i = (i ≤ 256) × (i + placeOfCode c (drop i (placesOf 256 area)) ≡ from + placeOfCode c (drop from (placesOf 256 area)))
-
 module _ (area c : List ℕ) (from i : ℕ) (inv : CodeLeft area c from i) where
   abbrev ps : Contents
   ps = placesOf 256 area
@@ -78,6 +105,10 @@ module _ (area c : List ℕ) (from i : ℕ) (inv : CodeLeft area c from i) where
       let z : placeOfCode c (drop i ps) ≡ suc (placeOfCode c (drop (i + 1) ps)) = rw (drop-cons ps i none (omega arith), sym p ∙ q, add-one) in
       (omega arith, omega (arith, z, inv .1))
 
+  -- another search goes on from the next place
+  pub code-on : i < 256 → (r : Bool) → r ≡ holdsCode c (getD ps i none) → r ≡ false → (k : ℕ) → CodeLeft area c (i + 1) k → CodeLeft area c from k
+  code-on h r p q k next = (next .0, next .1 ∙ code-next h r p q .1)
+
   pub code-none : 256 ≤ i → i ≡ from + placeOfCode c (drop from ps)
   unfolding placeOfCode
   code-none h =
@@ -85,6 +116,11 @@ module _ (area c : List ℕ) (from i : ℕ) (inv : CodeLeft area c from i) where
       let e : i ≡ length ps = omega (arith, inv .0) in
       let z : placeOfCode c (drop i ps) ≡ 0 = ap (λ (k : ℕ). placeOfCode c (drop k ps)) e ∙ ap (placeOfCode c) (drop-length ps) in
       omega (arith, z, inv .1)
+
+-- a place whose length is not the code's is passed over
+pub passed-over : (area c : List ℕ) (from i n : ℕ) → length area ≡ 12288 → arePlaces 256 area ≡ true → i < 256
+    → CodeLeft area c from i → n ≡ getD area (48 * i) 0 → (n ≡ length c → ⊥) → CodeLeft area c from (i + 1)
+passed-over area c from i n l a h inv e z = code-next area c from i inv h false (holds-other area i n (l, a, h) e c z) refl
 
 -- ---- the search for a free place
 

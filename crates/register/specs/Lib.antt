@@ -3,3 +3,4 @@ pub mod Representation
 pub mod Admitted
 pub mod Twice
 pub mod Keys
+pub mod Search

@@ -18,7 +18,7 @@ use loans::layout::PLACE_LENGTH;
 use loans::layout::PLACES;
 
 // The code goes to the borrower, in the lowest free place: 20, then 21.
-pub(crate) fn issue(code: &[u8], borrower: u32, area: &mut [u8]) -> Changed
+pub fn issue(code: &[u8], borrower: u32, area: &mut [u8]) -> Changed
     requires { ⌜ (isRegister (now area) ≡ true) × (length (now code) ≤ 42) ⌝ }
     ensures answer { λ r. ⌜ r ≡ changedAs (changedArea register (issueCode (now (code .entry)) borrower) (now (area .entry))) ⌝ }
     ensures area { λ _. ⌜ now (area .exit) ≡ afterwards (now (area .entry)) (changedArea register (issueCode (now (code .entry)) borrower) (now (area .entry))) ⌝ }
@@ -36,7 +36,7 @@ pub(crate) fn issue(code: &[u8], borrower: u32, area: &mut [u8]) -> Changed
 }
 
 // The code is taken back, and its place filled with zeros: 22.
-pub(crate) fn take_back(code: &[u8], area: &mut [u8]) -> Changed
+pub fn take_back(code: &[u8], area: &mut [u8]) -> Changed
     requires { ⌜ isRegister (now area) ≡ true ⌝ }
     ensures answer { λ r. ⌜ r ≡ changedAs (changedArea register (returnCode (now (code .entry))) (now (area .entry))) ⌝ }
     ensures area { λ _. ⌜ now (area .exit) ≡ afterwards (now (area .entry)) (changedArea register (returnCode (now (code .entry))) (now (area .entry))) ⌝ }
@@ -51,7 +51,7 @@ pub(crate) fn take_back(code: &[u8], area: &mut [u8]) -> Changed
 }
 
 // Who has the code: 22.
-pub(crate) fn ask(code: &[u8], area: &[u8]) -> Holder
+pub fn ask(code: &[u8], area: &[u8]) -> Holder
     requires { ⌜ isRegister (now area) ≡ true ⌝ }
     ensures { λ r. ⌜ r ≡ holderAs (askedArea register (now (code .entry)) (now (area .entry))) ⌝ }
 {

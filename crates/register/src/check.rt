@@ -5,7 +5,7 @@ use crate::places;
 use crate::twice;
 use loans::layout::REGISTER_LENGTH;
 
-pub(crate) fn is_register(area: &[u8]) -> bool
+pub fn is_register(area: &[u8]) -> bool
     ensures { λ r. ⌜ r ≡ isRegister (now (area .entry)) ⌝ }
 {
     if area.len() != REGISTER_LENGTH {

@@ -2,8 +2,9 @@
 mod admit;
 pub mod answer;
 pub mod calls;
-mod change;
-mod check;
+pub mod change;
+pub mod check;
+pub mod code;
 mod keys;
 mod place;
 mod places;

@@ -4,13 +4,13 @@ ghost use mathlib.Core.Option.{some};
 ghost use Prim.Native.Nat.{_≤_, _<_};
 ghost use lib.ListN.{length};
 ghost use Rattle.iscc.specs.Digits.{allBelow};
-ghost use Rattle.loans.specs.Loan.{loanOf, oneCode};
+ghost use Rattle.loans.specs.Loan.{loanOf};
 ghost use Rattle.loans.specs.Place.{placeBytes, isPlace};
+use crate::code::is_code;
 use iscc::code::LONGEST_CODE;
 use loans::layout::BORROWER_OFFSET;
 use loans::layout::CODE_OFFSET;
 use loans::layout::PLACE_LENGTH;
-use unit::reader::UnitRead;
 
 pub(crate) fn wide(x: u8) -> usize
     ensures { λ r. ⌜ (r ≡ x) × (r < 256) ⌝ }
@@ -32,17 +32,6 @@ fn all_zero(bytes: &[u8]) -> bool
         i += 1;
     }
     most == 0
-}
-
-// Whether the bytes are exactly one permitted unit or composite.
-fn is_code(bytes: &[u8]) -> bool
-    ensures { λ r. ⌜ r ≡ oneCode (now (bytes .entry)) ⌝ }
-{
-    let answer = unit::one::read(bytes);
-    match answer {
-        UnitRead::Unit(_) => true,
-        UnitRead::Refused(_) => false,
-    }
 }
 
 // Whether 48 bytes are a place: free and zero, or a code of its length with zeros behind it up to the borrower.

@@ -6,6 +6,7 @@ ghost use Prim.Native.Nat.{_+_, _*_, _≤_, _<_};
 ghost use lib.ListN.{length, getD, drop};
 ghost use Rattle.loans.specs.Place.{placesOf, arePlaces};
 ghost use Rattle.loans.specs.Moves.{pasted, holdsCode, placeOfCode, lowestFree};
+ghost use Rattle.register.specs.Search.{CodeLeft};
 use crate::place;
 use crate::place::wide;
 use loans::layout::CODE_OFFSET;
@@ -30,17 +31,39 @@ pub(crate) fn are_places(places: &[u8]) -> bool
     true
 }
 
-// Whether a place holds the code.
+// Whether a place holds the code. Most places that do not have another length or another last byte.
 fn holds(places: &[u8], i: usize, code: &[u8]) -> bool
     requires { ⌜ (length (now places) ≡ 12288) × (arePlaces 256 (now places) ≡ true) × (i < 256) ⌝ }
     ensures { λ r. ⌜ r ≡ holdsCode (now (code .entry)) (getD (placesOf 256 (now (places .entry))) i none) ⌝ }
 {
     let start = PLACE_LENGTH * i;
     let n = wide(places[start]);
+    if n != code.len() {
+        return false;
+    }
     if n == 0 {
         return false;
     }
+    if places[start + n] != code[n - 1] {
+        return false;
+    }
     compare::same(code, &places[start + CODE_OFFSET..start + CODE_OFFSET + n])
+}
+
+// A place, from one on, before which no place holds the code: the first whose length is the code's. A loop by itself, since most
+// places are passed over here.
+fn candidate_from(places: &[u8], from: usize, code: &[u8]) -> usize
+    requires { ⌜ (length (now places) ≡ 12288) × (arePlaces 256 (now places) ≡ true) × (from ≤ 256) ⌝ }
+    ensures { λ r. ⌜ (from ≤ r) × CodeLeft (now (places .entry)) (now (code .entry)) from r ⌝ }
+{
+    let mut i = from;
+    while i < PLACES {
+        if wide(places[PLACE_LENGTH * i]) == code.len() {
+            return i;
+        }
+        i += 1;
+    }
+    i
 }
 
 // The first place, of those from one on, that holds the code; 256 where none does.
@@ -48,12 +71,12 @@ pub(crate) fn place_from(places: &[u8], from: usize, code: &[u8]) -> usize
     requires { ⌜ (length (now places) ≡ 12288) × (arePlaces 256 (now places) ≡ true) × (from ≤ 256) ⌝ }
     ensures { λ r. ⌜ r ≡ from + placeOfCode (now (code .entry)) (drop from (placesOf 256 (now (places .entry)))) ⌝ }
 {
-    let mut i = from;
+    let mut i = candidate_from(places, from, code);
     while i < PLACES {
         if holds(places, i, code) {
             return i;
         }
-        i += 1;
+        i = candidate_from(places, i + 1, code);
     }
     i
 }

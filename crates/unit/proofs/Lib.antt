@@ -3,4 +3,5 @@ pub mod Table
 pub mod Read
 pub mod Bounds
 pub mod ExactlyOne
+pub mod Short
 pub mod Write

@@ -43,7 +43,7 @@ known (accept t) m e f =
     subst (Known (accept t)) s (record { is = ap accept (sym back); same = ap mainTypeAs back; below = omega arith })
 known (refuse q) m e f = let z : _≡_ {A = ℕ} 0 1 = cc in absurd (omega arith)
 
-unknown : (r : Answer permitted.MainType) {a : Named} (q : Refusal) → a ≡ namedAs r → a ≡ named.Refused q → r ≡ refuse q
+pub unknown : (r : Answer permitted.MainType) {a : Named} (q : Refusal) → a ≡ namedAs r → a ≡ named.Refused q → r ≡ refuse q
 unknown (accept t) q e f = let z : _≡_ {A = ℕ} 0 1 = cc in absurd (omega arith)
 unknown (refuse p) q e f = let s : p ≡ q = cc in ap refuse s
 
@@ -57,6 +57,10 @@ permitted-as m s v l e h = sym (e ∙ rw (lt-ltb (m .number) 7 h))
 
 pub length-small : (m : MainType) (s v l : ℕ) {p : Bool} → p ≡ permitsAs m s v l → m .number < 7 → not p ≡ false → l ≤ 7
 length-small m s v l {p} e h z = small (typeOf (m .number)) s v l (permitted-as m s v l e h ∙ not-false p z) .lengthNumber
+
+pub known-length : (n : ℕ) {a : Named} (m : MainType) (s v l : ℕ) {p : Bool} → a ≡ namedAs (mainTypeOf n) → a ≡ named.MainType m
+    → p ≡ permitsAs m s v l → not p ≡ false → l ≤ 7
+known-length n m s v l e f g z = length-small m s v l g (known-below n m e f) z
 
 -- what the header reader tells
 refused-as : (r : Answer (Parsed iscc.Header)) (q : Refusal) → headerReadAs r ≡ header.Refused q → r ≡ refuse q

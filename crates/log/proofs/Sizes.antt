@@ -1,0 +1,67 @@
+-- The size of the field that starts at an offset of a log, by its length bytes; 0 where it is not whole.
+use Prim.Native.Nat.{ℕ, _+_, _-_, _*_, _≤_, _<_}
+use mathlib.Core.Path.{_≡_, refl, _∙_}
+use mathlib.Core.Bool.{Bool, true, false, cond}
+use mathlib.Core.List.{List, [], _∷_}
+use native.Mathlib.Omega.{arith}
+use lib.ListN.{length, getD, take, drop, length-drop}
+use lib.Seq.{getD-drop}
+use borrow.Author.Tests.{le-leb, lt-leb}
+use Rattle.iscc.specs.Digits.{value}
+use Rattle.loans.specs.Fields.{firstSize, firstIsWhole}
+use Rattle.loans.proofs.Fields.{size-least}
+use Rattle.log.specs.WholeSize.{wholeSize}
+
+two-bytes : (bs : List ℕ) → 3 ≤ length bs → value 8 (take 2 (drop 1 bs)) ≡ 256 * getD bs 1 0 + getD bs 2 0
+unfolding value
+two-bytes [] h = absurd (omega arith)
+two-bytes (a ∷ []) h = absurd (omega arith)
+two-bytes (a ∷ b ∷ []) h = absurd (omega arith)
+two-bytes (a ∷ b ∷ c ∷ ds) h = omega arith
+
+torn-size : (bs : List ℕ) → length bs < firstSize bs → 0 ≡ wholeSize bs
+unfolding wholeSize firstIsWhole
+torn-size bs h = let e = lt-leb (firstSize bs) (length bs) h in rw e
+
+sized : (bs : List ℕ) → firstSize bs ≤ length bs → firstSize bs ≡ wholeSize bs
+unfolding wholeSize firstIsWhole
+sized bs h = let e = le-leb (firstSize bs) (length bs) h in rw e
+
+-- ---- the size, as the code reads it
+
+module _ (log : List ℕ) (offset : ℕ) (within : offset ≤ length log) where
+  pub head-torn : length log - offset < 3 → 0 ≡ wholeSize (drop offset log)
+  head-torn h = torn-size (drop offset log) (omega (arith, h, size-least (drop offset log), length-drop offset log))
+
+  module _ (whole : 3 ≤ length log - offset) (high low : ℕ) (h : high ≡ getD log (offset + 1) 0) (l : low ≡ getD log (offset + 2) 0) where
+    size-is : 3 + 256 * high + low ≡ firstSize (drop offset log)
+    unfolding firstSize
+    size-is =
+        let v = two-bytes (drop offset log) (omega (arith, length-drop offset log)) in
+        let a = getD-drop offset log 1 0 in
+        let b = getD-drop offset log 2 0 in
+        omega (arith, v, a, b, h, l)
+
+    pub body-torn : length log - offset < 3 + 256 * high + low → 0 ≡ wholeSize (drop offset log)
+    body-torn k = torn-size (drop offset log) (omega (arith, k, size-is, length-drop offset log))
+
+    pub size-whole : 3 + 256 * high + low ≤ length log - offset → 3 + 256 * high + low ≡ wholeSize (drop offset log)
+    size-whole k = size-is ∙ sized (drop offset log) (omega (arith, k, size-is, length-drop offset log))
+
+-- ---- what a size that is not 0 says, and one that is
+
+pub is-torn : (bs : List ℕ) → wholeSize bs ≡ 0 → firstIsWhole bs ≡ false
+unfolding wholeSize
+is-torn bs e = go (firstIsWhole bs) e
+  where
+    go : (b : Bool) → cond b (firstSize bs) 0 ≡ 0 → b ≡ false
+    go true e = absurd (omega (arith, e, size-least bs))
+    go false e = refl
+
+pub is-whole : (bs : List ℕ) → (wholeSize bs ≡ 0 → ⊥) → (firstIsWhole bs ≡ true) × (wholeSize bs ≡ firstSize bs)
+unfolding wholeSize
+is-whole bs n = go (firstIsWhole bs) n
+  where
+    go : (b : Bool) → (cond b (firstSize bs) 0 ≡ 0 → ⊥) → (b ≡ true) × (cond b (firstSize bs) 0 ≡ firstSize bs)
+    go true n = (refl, refl)
+    go false n = absurd (n refl)
