@@ -1,8 +1,10 @@
 //! Both sides must answer alike, or their times say nothing: on every measured input, with the number that its row states; and
 //! on what is near the first input of a row: its beginnings, and each change of one byte. Calls on a register must agree on
 //! damaged ones too, and change no more than the place that is put back behind a measured call. Logs are appended in areas
-//! of other lengths and at other positions too, and replayed where they are torn or a record stops them.
+//! of other lengths and at other positions too, and replayed where they are torn or a record stops them. The leaf and the loops
+//! in C count alike on bodies of every length.
 
+use crate::leaf;
 use crate::logs::{self, Record};
 use crate::registers::{Register, PLACE, PLACES};
 use crate::rows::{Call, Loan, Row};
@@ -15,6 +17,8 @@ const SHORT: usize = 100;
 const SHORT_AREA: usize = 9;
 /// So many records of a log are appended by themselves too. Codes of each length are among them.
 const RECORDS: usize = 64;
+/// The leaf asks for no more bytes in a body.
+const LONGEST: usize = 40;
 /// How a replay ended.
 const RAN: u32 = 1;
 const TORN: u32 = 2;
@@ -82,7 +86,7 @@ fn written_again(log: &[u8]) -> u32 {
     number
 }
 
-/// The number that both sides answer, on the register of a case if the row has any. The plain side has no split.
+/// The number that both sides answer, on the register of a case if the row has any. The plain side has no split and no leaf.
 fn number(row: &Row, case: usize, input: &[u8]) -> u32 {
     match row.call {
         Call::Intake => written([library::intake, plain::intake], row, input),
@@ -91,7 +95,7 @@ fn number(row: &Row, case: usize, input: &[u8]) -> u32 {
         Call::Base32Read => written([library::base32_read, plain::base32_read], row, input),
         Call::Base32Write => written([library::base32_write, plain::base32_write], row, input),
         Call::Join => written([library::join, plain::join], row, input),
-        Call::Split => row.number,
+        Call::Split | Call::Differing => row.number,
         Call::Loan(call) => registered(call, input, &row.registers[case]),
         Call::Append => written_again(input),
         Call::Replay => called(REPLAYS, input, &row.registers[case].area).0 .0,
@@ -232,5 +236,20 @@ pub fn check(row: &Row) {
         Call::Append => check_append(row),
         Call::Replay => check_replay(row),
         _ => {}
+    }
+}
+
+/// The leaf and both loops in C, on bodies of every two lengths. All bits of the last body differ from those of the first.
+pub fn check_leaf() {
+    let mut bodies = inputs::bytes(LONGEST);
+    let first = bodies[0].clone();
+    bodies.push(first.iter().map(|byte| !byte).collect());
+    for body in &bodies {
+        for (a, b) in (0..=LONGEST).flat_map(|end| (0..=LONGEST).map(move |other| (end, other))) {
+            let (a, b) = (&body[..a], &first[..b]);
+            let bits = a.iter().zip(b).map(|(x, y)| (x ^ y).count_ones() as u16).sum();
+            let counted = [leaf::proved, leaf::c_loop, leaf::c_popcnt].map(|count| count(a, b));
+            assert_eq!(counted, [bits; 3], "on {a:02x?} and {b:02x?}");
+        }
     }
 }

@@ -36,6 +36,7 @@ enum Answer {
     Written((u32, usize)),
     Tested(u32),
     Measured((u32, u32, u32, f32)),
+    Counted(u16),
     Held((u32, u32)),
     Replayed((u32, u32, usize)),
 }
@@ -45,6 +46,7 @@ impl Answer {
         match *self {
             Answer::Written((number, _)) | Answer::Tested(number) => number,
             Answer::Measured((number, ..)) | Answer::Held((number, _)) | Answer::Replayed((number, ..)) => number,
+            Answer::Counted(_) => 0,
         }
     }
 }
@@ -70,6 +72,7 @@ fn answer(entry: Entry, row: &Row, case: usize) -> (Answer, Vec<u8>) {
         Entry::Writer(entry) => Answer::Written(entry::write(entry, input, &mut area)),
         Entry::Test(entry) => Answer::Tested(entry::test(entry, input)),
         Entry::Measure(entry) => Answer::Measured(entry::measure(entry, input, &row.inputs[0])),
+        Entry::Count(entry) => Answer::Counted(entry::count(entry, input, &row.inputs[0])),
         Entry::Issue(entry) => Answer::Tested(entry::issue(entry, input, BORROWER, &mut area)),
         Entry::Return(entry) => Answer::Tested(entry::take_back(entry, input, &mut area)),
         Entry::Ask(entry) => Answer::Held(entry::ask(entry, input, &area)),
@@ -114,6 +117,7 @@ fn run(entry: Entry, row: &Row, Areas { records, area, registers }: &mut Areas, 
         Entry::Writer(entry) => over(&row.inputs, calls, |input| entry::write(entry, input, area)),
         Entry::Test(entry) => over(&row.inputs, calls, |input| entry::test(entry, input)),
         Entry::Measure(entry) => over(&row.inputs, calls, |input| entry::measure(entry, input, &row.inputs[0])),
+        Entry::Count(entry) => over(&row.inputs, calls, |input| entry::count(entry, input, &row.inputs[0])),
         Entry::Issue(entry) => {
             registers::over(&row.inputs, registers, calls, |text, area| entry::issue(entry, text, BORROWER, area))
         }

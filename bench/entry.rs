@@ -35,6 +35,8 @@ pub type Writer = unsafe extern "C" fn(*const u8, usize, *mut u8, usize) -> Writ
 pub type Test = unsafe extern "C" fn(*const u8, usize) -> u32;
 /// Reads two areas.
 pub type Measure = unsafe extern "C" fn(*const u8, usize, *const u8, usize) -> DistanceAnswer;
+/// Reads two areas: how many of their bits differ.
+pub type Count = unsafe extern "C" fn(*const u8, usize, *const u8, usize) -> u16;
 
 /// Reads one area, reads and writes another: a code goes out to a borrower.
 pub type Issue = unsafe extern "C" fn(*const u8, usize, u32, *mut u8, usize) -> u32;
@@ -65,6 +67,11 @@ pub fn measure(entry: Measure, a: &[u8], b: &[u8]) -> (u32, u32, u32, f32) {
     // The areas are as long as said.
     let answer = unsafe { entry(a.as_ptr(), a.len(), b.as_ptr(), b.len()) };
     (answer.number, answer.d, answer.n, answer.ratio)
+}
+
+pub fn count(entry: Count, a: &[u8], b: &[u8]) -> u16 {
+    // The areas are as long as said.
+    unsafe { entry(a.as_ptr(), a.len(), b.as_ptr(), b.len()) }
 }
 
 pub fn issue(entry: Issue, text: &[u8], borrower: u32, area: &mut [u8]) -> u32 {

@@ -3,6 +3,7 @@
 mod agree;
 mod entry;
 mod inputs;
+mod leaf;
 mod library;
 mod lines;
 mod logs;
@@ -94,7 +95,7 @@ fn bytes(row: &Row) -> f64 {
     }
 }
 
-/// None where the plain side has no such call.
+/// None where the plain side has no such call, and of the leaf, which has a table of its own.
 fn figures(row: &Row) -> Option<Figures> {
     Some(match row.call {
         Call::Intake => writers(row, library::intake, plain::intake),
@@ -104,7 +105,7 @@ fn figures(row: &Row) -> Option<Figures> {
         Call::Base32Read => writers(row, library::base32_read, plain::base32_read),
         Call::Base32Write => writers(row, library::base32_write, plain::base32_write),
         Call::Join => writers(row, library::join, plain::join),
-        Call::Split => return None,
+        Call::Split | Call::Differing => return None,
         Call::Distance => distance(row),
         Call::Loan(call) => on_registers(row, sides(call)),
         Call::Append => append(row),
@@ -142,16 +143,21 @@ fn print_lines(program: &str, folder: &str) {
     println!("| intake_lines | a million lines of 73 characters | {whole:.1} | {door:.1} | {ratio} |");
 }
 
-/// `bench check` compares answers alone. `bench PROGRAM FOLDER` measures the line program too; its input goes to the folder.
+/// `bench check` compares answers alone. `bench PROGRAM FOLDER` measures the leaf and the line program too; the input of the
+/// latter goes to the folder.
 fn main() {
     let words: Vec<String> = std::env::args().skip(1).collect();
     rows::all().iter().for_each(agree::check);
+    agree::check_leaf();
     if words == ["check"] {
         return;
     }
     print("Codes and texts", &rows::doors(), BY_CALL, false);
     print("Refusals", &rows::refusals(), BY_CALL, false);
     print("Units", &rows::units(), BY_CALL, false);
+    if words.len() == 2 {
+        leaf::print();
+    }
     print("The register", &rows::register(), BY_CALL, false);
     print("The log", &rows::log(), BY_RECORD, true);
     print("Growth", &rows::growth(), BY_CALL, true);

@@ -11,7 +11,7 @@ const TURN: Duration = Duration::from_millis(2);
 
 /// The median of some ratios, and the quartiles: half of the ratios lie between these.
 pub struct Ratio {
-    median: f64,
+    pub median: f64,
     quartiles: [f64; 2],
 }
 

@@ -1,6 +1,6 @@
 //! The entries of both revisions. `bench/before` has named them before_NAME and after_NAME.
 
-use crate::entry::{Ask, Issue, LogIssue, LogReturn, Measure, Replay, Return, Test, Writer};
+use crate::entry::{Ask, Count, Issue, LogIssue, LogReturn, Measure, Replay, Return, Test, Writer};
 use crate::rows::{Call, Loan};
 use std::arch::global_asm;
 
@@ -9,6 +9,7 @@ pub enum Entry {
     Writer(Writer),
     Test(Test),
     Measure(Measure),
+    Count(Count),
     Issue(Issue),
     Return(Return),
     Ask(Ask),
@@ -55,6 +56,7 @@ entries! {
     join: Writer,
     split: Writer,
     distance: Measure,
+    differing: Count,
     loans_issue: Issue,
     loans_return: Return,
     loans_ask: Ask,
@@ -90,6 +92,7 @@ impl Entries {
             Call::Join => self.join.map(Entry::Writer),
             Call::Split => self.split.map(Entry::Writer),
             Call::Distance => self.distance.map(Entry::Measure),
+            Call::Differing => self.differing.map(Entry::Count),
             Call::Loan(Loan::Issue) => self.loans_issue.map(Entry::Issue),
             Call::Loan(Loan::Return) => self.loans_return.map(Entry::Return),
             Call::Loan(Loan::Ask) => self.loans_ask.map(Entry::Ask),

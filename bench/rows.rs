@@ -17,6 +17,8 @@ pub enum Call {
     Split,
     /// To the first of the inputs.
     Distance,
+    /// From the first of the inputs, bodies alone.
+    Differing,
     Loan(Loan),
     /// All records of a log, one by one.
     Append,
@@ -44,6 +46,8 @@ pub struct Row {
 }
 
 const KIB: usize = 1024;
+/// Bits of a body.
+const BITS: [usize; 8] = [32, 64, 96, 128, 160, 192, 224, 256];
 /// Codes that are out.
 const OUT: [usize; 5] = [0, 1, 16, 128, PLACES];
 /// Codes that are out while a log is replayed, about so many.
@@ -62,6 +66,7 @@ impl Call {
             Call::Join => "join",
             Call::Split => "split",
             Call::Distance => "distance",
+            Call::Differing => "differing bits",
             Call::Loan(Loan::Issue) => "issue",
             Call::Loan(Loan::Return) => "return",
             Call::Loan(Loan::Ask) => "ask",
@@ -133,10 +138,14 @@ pub fn units() -> Vec<Row> {
         row(Call::Join, "five units", inputs::units(5)),
         row(Call::Split, "five units", inputs::codes()),
     ];
-    for bits in [32, 64, 128, 256] {
+    for bits in BITS {
         rows.push(row(Call::Distance, format!("{bits} bits"), inputs::data_units(bits)));
     }
     rows
+}
+
+pub fn leaf() -> Vec<Row> {
+    BITS.map(|bits| row(Call::Differing, format!("{bits} bits"), inputs::bytes(bits / 8))).into()
 }
 
 /// The inputs of a call are alike but for their length.
@@ -218,5 +227,5 @@ pub fn log() -> Vec<Row> {
 }
 
 pub fn all() -> Vec<Row> {
-    [doors(), refusals(), units(), register(), log(), growth()].into_iter().flatten().collect()
+    [doors(), refusals(), units(), leaf(), register(), log(), growth()].into_iter().flatten().collect()
 }

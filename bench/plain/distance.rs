@@ -11,17 +11,25 @@ fn only_item(bytes: &[u8]) -> Result<Item, u32> {
     }
 }
 
+/// Of bodies of one length, which is a multiple of four: words of eight bytes, then four if they are left.
+fn differing(a: &[u8], b: &[u8]) -> u32 {
+    let word = |bytes: &[u8]| u64::from_ne_bytes(bytes.try_into().unwrap());
+    let half = |bytes: &[u8]| u32::from_ne_bytes(bytes.try_into().unwrap());
+    let words = a.chunks_exact(8).zip(b.chunks_exact(8)).map(|(x, y)| (word(x) ^ word(y)).count_ones()).sum::<u32>();
+    match (a.chunks_exact(8).remainder(), b.chunks_exact(8).remainder()) {
+        ([], []) => words,
+        (x, y) => words + (half(x) ^ half(y)).count_ones(),
+    }
+}
+
 fn measured(a: &[u8], b: &[u8]) -> Result<(u32, u32), u32> {
     let (first, second) = (only_item(a)?, only_item(b)?);
     if first.main_type > 3 || first.main_type != second.main_type || first.subtype != second.subtype {
         return Err(18);
     }
-    // Bodies are whole words of four bytes.
-    let words = |bytes: &[u8], at: usize| u32::from_ne_bytes(bytes[at..at + 4].try_into().unwrap());
     let shorter = first.body.min(second.body);
     let (a, b) = (&a[HEADER..HEADER + shorter], &b[HEADER..HEADER + shorter]);
-    let d = (0..shorter).step_by(4).map(|at| (words(a, at) ^ words(b, at)).count_ones()).sum();
-    Ok((d, 8 * shorter as u32))
+    Ok((differing(a, b), 8 * shorter as u32))
 }
 
 #[inline(never)]

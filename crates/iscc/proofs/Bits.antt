@@ -3,19 +3,19 @@
 use Prim.Native.Nat.{ℕ, zero, suc, _+_, _*_, _/_, _%_, _^_, min, _≤_, _<_}
 use mathlib.Core.Path.{_≡_, refl, sym, _∙_, ap}
 use mathlib.Core.Bool.{cond}
-use mathlib.Core.List.{List, [], _∷_, _++_}
-use native.Mathlib.Nat.{mod-lt, mod-eq-of-lt, mod-one, add-assoc, one-mul, suc-inj, suc-min-suc, not-suc-le-zero, le-of-suc-le-suc}
-use native.Mathlib.Numerals.{add-one}
+use mathlib.Core.List.{List, [], _∷_, _++_, reverse, reverseAux}
+use native.Mathlib.Nat.{mod-lt, mod-eq-of-lt, mod-one, add-assoc, add-comm, mul-suc, one-mul, suc-inj, suc-min-suc, not-suc-le-zero, le-of-suc-le-suc}
 use native.Mathlib.Omega.{arith}
-use lib.ListN.{length, take, getD}
-use lib.Seq.{take-suc, length-take-le}
+use lib.ListN.{length, take, drop, length-reverse}
+use lib.Seq.{take-add, length-take-le}
 use lib.Bits.{bitXor, xor-lt, xor-block}
 use lib.Count.{ones, onesIn, ones-le, ones-cat}
 use lib.Pow.{pow-pos, mod-pow-add}
 use lib.Dec.{eqb, lit<}
-use Rattle.iscc.specs.Digits.{digits}
+use Rattle.iscc.specs.Digits.{digits, value, Below}
 use Rattle.iscc.specs.Distance.{bitsOf, differingPositions, differingBits}
-use Rattle.iscc.proofs.Digits.{length-digits}
+use Rattle.iscc.proofs.Digits.{length-digits, value-lt}
+use Rattle.iscc.proofs.Groups.{digits-join}
 
 -- a bit is 0 or 1
 two : (P : ℕ → Type 0) (n : ℕ) → n < 2 → P 0 → P 1 → P n
@@ -52,14 +52,10 @@ ones-differ (suc n) x y =
     (ones-cat n (bitXor hx hy) (bitXor (x % 2 ^ n) (y % 2 ^ n)) (xor-lt n (x % 2 ^ n) (y % 2 ^ n) rx ry)
     ∙ rw (one-bit hx hy (mod-lt (x / 2 ^ n) (lit< tt)) (mod-lt (y / 2 ^ n) (lit< tt)), ones-differ n x y))
 
--- bytes
-pub ones-bytes : (x y : ℕ) → x < 2 ^ 8 → y < 2 ^ 8 → ones (bitXor x y) ≡ differingPositions (digits 1 8 x) (digits 1 8 y)
-ones-bytes x y hx hy = let e = ones-differ 8 x y in rw (mod-eq-of-lt hx, mod-eq-of-lt hy) at e
-
 pub ones-most : (w x y : ℕ) → x < 2 ^ w → y < 2 ^ w → ones (bitXor x y) ≤ w
 ones-most w x y hx hy = ones-le w (bitXor x y) (xor-lt w x y hx hy)
 
--- ---- two lists of bytes, a byte of each at a time
+-- ---- two lists of bytes
 
 positions-append : (xs ys us vs : List ℕ) → length xs ≡ length ys → differingPositions (xs ++ us) (ys ++ vs) ≡ differingPositions xs ys + differingPositions us vs
 unfolding differingPositions
@@ -85,19 +81,63 @@ differ-none′ xs = go (bitsOf xs)
     go [] = refl
     go (b ∷ bs) = refl
 
--- one more byte of each
-pub differ-next : (xs ys : List ℕ) (i : ℕ) → i < length xs → i < length ys
-    → differingBits (take (i + 1) xs) (take (i + 1) ys) ≡ differingBits (take i xs) (take i ys) + differingPositions (digits 1 8 (getD xs i 0)) (digits 1 8 (getD ys i 0))
-differ-next [] ys i hx hy = absurd (not-suc-le-zero hx)
-differ-next (x ∷ xs) [] i hx hy = absurd (not-suc-le-zero hy)
-differ-next (x ∷ xs) (y ∷ ys) zero hx hy = differ-cons x y [] [] ∙ rw (differ-none []) (omega arith)
-differ-next (x ∷ xs) (y ∷ ys) (suc i) hx hy =
-    let r = differ-next xs ys i (le-of-suc-le-suc hx) (le-of-suc-le-suc hy) in
-    let e : suc i + 1 ≡ suc (i + 1) = omega arith in
-    rw (e, differ-cons x y (take (i + 1) xs) (take (i + 1) ys), r, differ-cons x y (take i xs) (take i ys)) (sym (add-assoc _ _ _))
+differ-append : (xs ys us vs : List ℕ) → length xs ≡ length ys → differingBits (xs ++ us) (ys ++ vs) ≡ differingBits xs ys + differingBits us vs
+differ-append [] [] us vs h = rw (differ-none []) (omega arith)
+differ-append [] (y ∷ ys) us vs h = omega (arith, h)
+differ-append (x ∷ xs) [] us vs h = omega (arith, h)
+differ-append (x ∷ xs) (y ∷ ys) us vs h =
+    rw (differ-cons x y (xs ++ us) (ys ++ vs), differ-append xs ys us vs (suc-inj h), differ-cons x y xs ys) (sym (add-assoc _ _ _))
+
+-- k more bytes of each
+pub differ-more : (xs ys : List ℕ) (i k : ℕ) → i ≤ length xs → i ≤ length ys
+    → differingBits (take (i + k) xs) (take (i + k) ys) ≡ differingBits (take i xs) (take i ys) + differingBits (take k (drop i xs)) (take k (drop i ys))
+differ-more xs ys i k hx hy =
+    rw (take-add i k xs, take-add i k ys)
+    (differ-append (take i xs) (take i ys) (take k (drop i xs)) (take k (drop i ys)) (length-take-le i xs hx ∙ sym (length-take-le i ys hy)))
 
 -- as far as the shorter goes
 pub differ-all : (xs ys : List ℕ) → differingBits (take (min (length xs) (length ys)) xs) (take (min (length xs) (length ys)) ys) ≡ differingBits xs ys
 differ-all [] ys = let e : min 0 (length ys) ≡ 0 = omega arith in rw e (differ-none [] ∙ sym (differ-none ys))
 differ-all (x ∷ xs) [] = let e : min (suc (length xs)) 0 ≡ 0 = omega arith in rw e (differ-none [] ∙ sym (differ-none′ (x ∷ xs)))
 differ-all (x ∷ xs) (y ∷ ys) = rw (suc-min-suc (length xs) (length ys), differ-cons x y (take (min (length xs) (length ys)) xs) (take (min (length xs) (length ys)) ys), differ-all xs ys) (sym (differ-cons x y xs ys))
+
+-- ---- bytes as one number, in either order
+
+no-digits : (v x : ℕ) → digits v 0 x ≡ []
+unfolding digits
+no-digits v x = refl
+
+bits-value : (xs : List ℕ) → Below 256 xs → bitsOf xs ≡ digits 1 (8 * length xs) (value 8 xs)
+unfolding bitsOf value
+bits-value [] h = sym (no-digits 1 0)
+bits-value (x ∷ xs) h =
+    let k : ℕ = 8 * length xs in
+    let l : value 8 xs < 2 ^ (1 * k) = rw (one-mul k) (value-lt 8 xs (h .1)) in
+    let j = digits-join 1 8 k x (value 8 xs) l in
+    rw (bits-value xs (h .1), mul-suc 8 (length xs), add-comm k 8) (sym (rw (one-mul k) at j))
+
+ones-value : (xs ys : List ℕ) → length xs ≡ length ys → Below 256 xs → Below 256 ys → ones (bitXor (value 8 xs) (value 8 ys)) ≡ differingBits xs ys
+unfolding differingBits
+ones-value xs ys e hx hy =
+    let n : ℕ = 8 * length xs in
+    let lx : value 8 xs < 2 ^ n = value-lt 8 xs hx in
+    let ly : value 8 ys < 2 ^ n = rw e (value-lt 8 ys hy) in
+    let p = ones-differ n (value 8 xs) (value 8 ys) in
+    rw (bits-value xs hx, bits-value ys hy, ← e) (rw (mod-eq-of-lt lx, mod-eq-of-lt ly) at p)
+
+differ-reversed : (xs ys us vs : List ℕ) → length xs ≡ length ys → differingBits (reverseAux xs us) (reverseAux ys vs) ≡ differingBits xs ys + differingBits us vs
+differ-reversed [] [] us vs h = rw (differ-none []) (omega arith)
+differ-reversed [] (y ∷ ys) us vs h = omega (arith, h)
+differ-reversed (x ∷ xs) [] us vs h = omega (arith, h)
+differ-reversed (x ∷ xs) (y ∷ ys) us vs h =
+    differ-reversed xs ys (x ∷ us) (y ∷ vs) (suc-inj h) ∙ rw (differ-cons x y us vs, differ-cons x y xs ys) (omega arith)
+
+below-reversed : (b : ℕ) (xs us : List ℕ) → Below b xs → Below b us → Below b (reverseAux xs us)
+below-reversed b [] us h k = k
+below-reversed b (x ∷ xs) us h k = below-reversed b xs (x ∷ us) (h .1) (h .0, k)
+
+-- bytes as numbers of any width, the first byte of each the lowest
+pub ones-reverse : (xs ys : List ℕ) → length xs ≡ length ys → Below 256 xs → Below 256 ys → ones (bitXor (value 8 (reverse xs)) (value 8 (reverse ys))) ≡ differingBits xs ys
+ones-reverse xs ys e hx hy =
+    ones-value (reverse xs) (reverse ys) (length-reverse xs ∙ e ∙ sym (length-reverse ys)) (below-reversed 256 xs [] hx tt) (below-reversed 256 ys [] hy tt)
+    ∙ differ-reversed xs ys [] [] e ∙ rw (differ-none []) (omega arith)
