@@ -18,8 +18,9 @@
  * No memory is taken and nothing is kept between calls, so that every entry of this header may run
  * in several threads at once.
  *
- * Words. An item is one unit or one composite: the bytes of its header and its body. A list is two
- * or more items laid end to end.
+ * Words. An item is one unit or one composite: the bytes of its header and its body. The units in a
+ * composite are of 64 bits, but in a wide one, which has DATA and INSTANCE alone, of 128. A list is
+ * two or more items laid end to end.
  *
  * Areas. An area is a pointer and a length in bytes. It must be as long as stated, and an area for
  * writing must not overlap one for reading; nothing else is taken on trust. A null pointer with
@@ -47,9 +48,9 @@ extern "C" {
  * ISCC_VERSION.
  */
 #define ISCC_VERSION_MAJOR 0
-#define ISCC_VERSION_MINOR 3
+#define ISCC_VERSION_MINOR 4
 #define ISCC_VERSION_PATCH 0
-#define ISCC_VERSION_TEXT "0.3.0"
+#define ISCC_VERSION_TEXT "0.4.0"
 #define ISCC_VERSION \
     (ISCC_VERSION_MAJOR * 65536 + ISCC_VERSION_MINOR * 256 + ISCC_VERSION_PATCH)
 
@@ -190,7 +191,8 @@ iscc_written iscc_code(const uint8_t *text, size_t text_len, uint8_t *out, size_
 iscc_written iscc_text(const uint8_t *code, size_t code_len, uint8_t *out, size_t out_len);
 
 /*
- * Joins units laid end to end to the composite that they make, whatever their order.
+ * Joins units laid end to end to the composite that they make, whatever their order. That is never
+ * a wide one: its two units are 11.
  *
  * Refusals: 7, 8, 9 for each item from the left (no bytes are 7); of one item alone 10 for a
  * composite or an ID, else 13, whatever its length; of a list 10 to 14; then 15 where the area is
@@ -199,10 +201,11 @@ iscc_written iscc_text(const uint8_t *code, size_t code_len, uint8_t *out, size_
 iscc_written iscc_join(const uint8_t *units, size_t units_len, uint8_t *out, size_t out_len);
 
 /*
- * Splits a composite into its units, laid end to end in the composite's order: 10 bytes for each.
+ * Splits a composite into its units, laid end to end in the composite's order: 10 bytes for each,
+ * or 18 for each of the two of a wide composite.
  *
  * Refusals: 7, 8, 9, 19 of the bytes, then 8 for anything but a composite, then 15 where the area
- * is shorter than the units (20, 30, 40 or 50 bytes).
+ * is shorter than the units (20, 30, 40 or 50 bytes, or 36 of a wide composite).
  */
 iscc_written iscc_split(const uint8_t *code, size_t code_len, uint8_t *out, size_t out_len);
 

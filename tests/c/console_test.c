@@ -92,10 +92,11 @@ static void short_texts(void) {
     refused("   ", ISCC_EMPTY_TEXT);
 }
 
-/* The header 57 00 in base32 is K4AA; the longest composite fills the area of 73 bytes to its end. */
+/* The header 57 00 in base32 is K4AA, and 57 01 is K4AQ; the longest composite fills the area of 73 bytes to its end. */
 static void headers(void) {
-    char longest[ISCC_TEXT_AREA + 1] = "ISCC:K4AA";
-    refused("K4AA", ISCC_NOT_PERMITTED);
+    char longest[ISCC_TEXT_AREA + 1] = "ISCC:";
+    refused("K4AA", ISCC_SHORT_BODY);
+    refused("K4AQ", ISCC_NOT_PERMITTED);
     memset(longest + 5, 'A', 68);
     memcpy(longest + 5, "KADQ", 4);
     longest[ISCC_TEXT_AREA] = 0;
@@ -160,7 +161,8 @@ static void no_distance(const void *a, size_t a_len, const void *b, size_t b_len
 static void distances(void) {
     const uint8_t data[] = {0x30, 0, 0, 0, 0, 0}, other[] = {0x30, 0, 0xff, 0, 0, 1}, meta[] = {0, 0, 0, 0, 0, 0};
     const uint8_t longer[] = {0x30, 1, 0xff, 0, 0, 1, 9, 9, 9, 9}, left_over[] = {0x30, 0, 0, 0, 0, 0, 0};
-    const uint8_t composite[] = {0x57, 0}, cut[] = {0x30, 0, 0, 0, 0}, instance[] = {0x40, 0, 0, 0, 0, 0};
+    const uint8_t cut[] = {0x30, 0, 0, 0, 0}, instance[] = {0x40, 0, 0, 0, 0, 0};
+    const uint8_t cut_wide[] = {0x57, 0}, other_length[34] = {0x57, 1};
     iscc_distance_answer answer = distance(data, sizeof data, other, sizeof other);
     expect_distance(answer, ISCC_OK, 9, 32, 0x3e900000, "distance of 0.28125");
     answer = distance(data, sizeof data, longer, sizeof longer);
@@ -169,7 +171,12 @@ static void distances(void) {
     no_distance(instance, sizeof instance, instance, sizeof instance, ISCC_NO_DISTANCE, "INSTANCE");
     no_distance(NULL, 0, NULL, 0, ISCC_BAD_HEADER, "null areas");
     no_distance(data, sizeof data, NULL, 0, ISCC_BAD_HEADER, "null second area");
-    no_distance(composite, sizeof composite, NULL, 0, ISCC_NOT_PERMITTED, "57 00");
+    no_distance(cut_wide, sizeof cut_wide, NULL, 0, ISCC_SHORT_BODY, "57 00");
+    no_distance(other_length, sizeof other_length, NULL, 0, ISCC_NOT_PERMITTED, "57 01");
+    no_distance(wide_code, sizeof wide_code, NULL, 0, ISCC_BAD_HEADER, "a wide composite and nothing");
+    no_distance(wide_code, sizeof wide_code, wide_code, sizeof wide_code, ISCC_NO_DISTANCE, "a wide composite with itself");
+    no_distance(wide_code, sizeof wide_code, data, sizeof data, ISCC_NO_DISTANCE, "a wide composite and a unit");
+    no_distance(data, sizeof data, wide_code, sizeof wide_code, ISCC_NO_DISTANCE, "a unit and a wide composite");
     no_distance(cut, sizeof cut, data, sizeof data, ISCC_SHORT_BODY, "cut");
     no_distance(left_over, sizeof left_over, cut, sizeof cut, ISCC_BYTES_LEFT_OVER, "left over");
 }
@@ -232,6 +239,37 @@ static void codes(void) {
     refuses(iscc_split, units, 10, 20, ISCC_NOT_PERMITTED, "split of a unit");
 }
 
+/* A wide composite: its text in two spellings, its code, and its units of 128 bits, which cannot be joined again. */
+static void wide(void) {
+    const uint8_t units[36] = {0x30, 0x03, 0x00, 0x01, 0x02, 0x03, 0x04, 0x05, 0x06, 0x07, 0x08, 0x09,
+                               0x0a, 0x0b, 0x0c, 0x0d, 0x0e, 0x0f, 0x40, 0x03, 0x10, 0x11, 0x12, 0x13,
+                               0x14, 0x15, 0x16, 0x17, 0x18, 0x19, 0x1a, 0x1b, 0x1c, 0x1d, 0x1e, 0x1f};
+    uint8_t other_length[42] = {0x57, 0x01}, behind[35] = {0}, list[44] = {0x40, 0x01};
+    written(WIDE, WIDE);
+    written(WIDE + 5, WIDE);
+    written(SMALL_WIDE, WIDE);
+    refused("GABQAAICAMCAKBQHBAEQUCYMBUHA6QADCAIREEYUCULBOGAZDINRYHI6D4", ISCC_NOT_64_BITS); /* its units */
+    refused("GAAW2PRCRS5LNVZV-K4AAAAICAMCAKBQHBAEQUCYMBUHA6EARCIJRIFIWC4MBSGQ3DQOR4HY", ISCC_NOT_JOINABLE);
+    refused("K4AAAAICAMCAKBQHBAEQUCYMBUHA6EARCIJRIFIWC4MBSGQ3DQOR4", ISCC_SHORT_BODY);
+    memcpy(behind, wide_code, sizeof wide_code);
+    memcpy(list + 10, wide_code, sizeof wide_code);
+    writes(iscc_code, WIDE, strlen(WIDE), ISCC_CODE_AREA, ISCC_OK, wide_code, 34, "code of a wide text");
+    writes(iscc_code, SMALL_WIDE, strlen(SMALL_WIDE), 50, ISCC_OK, wide_code, 34, "code of a wide text in small letters");
+    writes(iscc_text, wide_code, 34, ISCC_TEXT_AREA, ISCC_OK, WIDE, strlen(WIDE), "text of a wide composite");
+    refuses(iscc_text, wide_code, 33, ISCC_TEXT_AREA, ISCC_SHORT_BODY, "text of a cut wide composite");
+    refuses(iscc_text, other_length, 42, ISCC_TEXT_AREA, ISCC_NOT_PERMITTED, "text of 57 01");
+    writes(iscc_split, wide_code, 34, 36, ISCC_OK, units, 36, "split of a wide composite");
+    writes(iscc_split, wide_code, 34, ISCC_SPLIT_AREA, ISCC_OK, units, 36, "split of a wide composite");
+    refuses(iscc_split, wide_code, 34, 35, ISCC_AREA_TOO_SHORT, "split of a wide composite, area of 35");
+    refuses(iscc_split, wide_code, 33, 36, ISCC_SHORT_BODY, "split of a cut wide composite");
+    refuses(iscc_split, behind, 35, 36, ISCC_BYTES_LEFT_OVER, "split of a wide composite and a byte");
+    refuses(iscc_split, other_length, 42, ISCC_SPLIT_AREA, ISCC_NOT_PERMITTED, "split of 57 01");
+    refuses(iscc_join, units, 36, ISCC_CODE_AREA, ISCC_NOT_64_BITS, "join of two units of 128 bits");
+    refuses(iscc_join, wide_code, 34, ISCC_CODE_AREA, ISCC_NOT_JOINABLE, "join of a wide composite");
+    refuses(iscc_join, list, 44, ISCC_CODE_AREA, ISCC_NOT_JOINABLE, "join of a unit and a wide composite");
+    refuses(iscc_join, other_length, 42, ISCC_CODE_AREA, ISCC_NOT_PERMITTED, "join of 57 01");
+}
+
 static void say_again(void) {
     printf("  run again: %s%s --only %s\n", BY, program, block_name);
     fflush(stdout);
@@ -282,11 +320,12 @@ static const struct {
     void (*run)(void);
 } blocks[] = {
     {"line_case", line_case},   {"one_unit", one_unit},   {"short_texts", short_texts}, {"headers", headers}, {"areas", areas},
-    {"long_texts", long_texts}, {"distances", distances}, {"codes", codes},
+    {"long_texts", long_texts}, {"distances", distances}, {"codes", codes},             {"wide", wide},
     {"loans_one_code", loans_one_code},
     {"loans_places", loans_places},
     {"loans_full", loans_full},
     {"loans_alike", loans_alike},
+    {"loans_wide", loans_wide},
     {"loans_texts", loans_texts},
     {"loans_lengths", loans_lengths},
     {"loans_damaged", loans_damaged},
@@ -296,6 +335,7 @@ static const struct {
     {"log_records", log_records},
     {"log_codes", log_codes},
     {"log_room", log_room},
+    {"log_wide", log_wide},
     {"log_every_cut", log_every_cut},
     {"log_stops", log_stops},
     {"log_no_records", log_no_records},

@@ -22,6 +22,13 @@ static const uint8_t shortest_code[] = {0x30, 0x00, 0xff, 0x00, 0x00, 0x01};
 #define LONGEST "KADQAAAAAAAAAAAAAAAAAAAAAAAAAAAAAAAAAAAAAAAAAAAAAAAAAAAAAAAAAAAAAAAA"
 static const uint8_t longest_code[42] = {0x50, 0x07};
 
+/* A wide composite typed in two ways, and its bytes. */
+#define WIDE "ISCC:K4AAAAICAMCAKBQHBAEQUCYMBUHA6EARCIJRIFIWC4MBSGQ3DQOR4HY"
+#define SMALL_WIDE " iscc:k4aaaaicamcakbqhbaeq-ucymbuha6-earcijrifiwc4mbsgq3dqor4hy-\n"
+static const uint8_t wide_code[34] = {0x57, 0x00, 0x00, 0x01, 0x02, 0x03, 0x04, 0x05, 0x06, 0x07, 0x08, 0x09,
+                                      0x0a, 0x0b, 0x0c, 0x0d, 0x0e, 0x0f, 0x10, 0x11, 0x12, 0x13, 0x14, 0x15,
+                                      0x16, 0x17, 0x18, 0x19, 0x1a, 0x1b, 0x1c, 0x1d, 0x1e, 0x1f};
+
 typedef enum { ISSUE, RETURN, ASK } loans_call;
 
 static uint8_t *fresh_register(void) {
@@ -207,6 +214,34 @@ static void loans_alike(void) {
     free(area);
 }
 
+/* A wide composite is a code like any other, and another one than the composites that share bytes with it: of four units with
+ * the same body, and of 64 bits with the first bytes of its two. */
+static void loans_wide(void) {
+    uint8_t *area = fresh_register(), four_code[sizeof wide_code], short_code[18] = {0x55, 0x00};
+    char four[ISCC_TEXT_AREA + 1], narrow[ISCC_TEXT_AREA + 1];
+    memcpy(four_code, wide_code, sizeof wide_code);
+    four_code[0] = 0x50;
+    four_code[1] = 0x03;
+    memcpy(short_code + 2, wide_code + 2, 8);
+    memcpy(short_code + 10, wide_code + 18, 8);
+    text_of(four_code, sizeof four_code, four);
+    text_of(short_code, sizeof short_code, narrow);
+    not_out(area, WIDE);
+    issue_takes(area, 0, SMALL_WIDE, 0x01020304, wide_code, sizeof wide_code);
+    has(area, WIDE, 0x01020304);
+    issue_refused(area, WIDE, ISCC_ALREADY_OUT);
+    not_out(area, four);
+    not_out(area, narrow);
+    issue_takes(area, 1, four, 5, four_code, sizeof four_code);
+    issue_takes(area, 2, narrow, 6, short_code, sizeof short_code);
+    has(area, SMALL_WIDE, 0x01020304);
+    return_frees(area, 0, WIDE);
+    not_out(area, SMALL_WIDE);
+    has(area, four, 5);
+    has(area, narrow, 6);
+    free(area);
+}
+
 /* A text that intake refuses has intake's number, whether the area is a register or not. */
 static void loans_texts(void) {
     const struct {
@@ -219,7 +254,8 @@ static void loans_texts(void) {
         {"A", ISCC_BAD_COUNT},
         {"AB", ISCC_SPARE_BITS},
         {"AA", ISCC_BAD_HEADER},
-        {"K4AA", ISCC_NOT_PERMITTED},
+        {"K4AQ", ISCC_NOT_PERMITTED},
+        {"K4AA", ISCC_SHORT_BODY},
         {"GAAW2PRC", ISCC_SHORT_BODY},
         {"GAAW2PRCRS5LNVZV-MAAGZTFQTTVIZPJR", ISCC_NOT_JOINABLE},
         {"GAAW2PRCRS5LNVZV-GAAW2PRCRS5LNVZV", ISCC_MAIN_TYPE_TWICE},
@@ -303,13 +339,21 @@ static void loans_damaged(void) {
     }
 }
 
-/* Places that are well formed and make no register: a list, and a code twice. */
+/* Places that are well formed and make no register: a list, what is nearly a wide composite, and a code twice. */
 static void loans_wrong_codes(void) {
     const uint8_t list[] = {0x30, 0x01, 0x6d, 0x3e, 0x22, 0x8c, 0xba, 0xb6, 0xd7, 0x35,
                             0x40, 0x01, 0x4a, 0x80, 0x50, 0x55, 0xc9, 0xba, 0xf3, 0x96};
     uint8_t *area = two_out();
     put_place(area, PLACES - 1, list, sizeof list, 3);
     not_a_register(area, "a list");
+    put_place(area, PLACES - 1, wide_code, sizeof wide_code - 1, 3);
+    not_a_register(area, "a cut wide composite");
+    put_place(area, PLACES - 1, wide_code, sizeof wide_code, 3);
+    area[(PLACES - 1) * PLACE] = sizeof wide_code + 1;
+    not_a_register(area, "a wide composite and a byte");
+    area[(PLACES - 1) * PLACE] = sizeof wide_code;
+    area[(PLACES - 1) * PLACE + 2] = 0x01;
+    not_a_register(area, "57 01");
     put_place(area, PLACES - 1, composite_code, sizeof composite_code, 3);
     not_a_register(area, "a code twice, two borrowers");
     put_place(area, PLACES - 1, longest_code, sizeof longest_code, 2);

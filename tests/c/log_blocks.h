@@ -92,7 +92,8 @@ static void log_records(void) {
 static void log_codes(void) {
     const uint8_t units[] = {0x30, 0x01, 0x6d, 0x3e, 0x22, 0x8c, 0xba, 0xb6, 0xd7, 0x35,
                              0x40, 0x01, 0x4a, 0x80, 0x50, 0x55, 0xc9, 0xba, 0xf3, 0x96};
-    const uint8_t wide[34] = {0x57, 0x00}, behind[7] = {0x30, 0x00, 0xff, 0x00, 0x00, 0x01};
+    const uint8_t other_length[34] = {0x57, 0x01}, behind[7] = {0x30, 0x00, 0xff, 0x00, 0x00, 0x01};
+    const uint8_t behind_wide[35] = {0x57, 0x00};
     uint8_t *large = calloc(1, 65542);
     if (large == NULL) abort();
     memcpy(large, shortest_code, sizeof shortest_code);
@@ -106,7 +107,9 @@ static void log_codes(void) {
         {composite_code, sizeof composite_code - 1, "cut code"},
         {units, sizeof units, "two units"},
         {behind, sizeof behind, "a byte behind"},
-        {wide, sizeof wide, "57 00"},
+        {wide_code, sizeof wide_code - 1, "cut wide composite"},
+        {behind_wide, sizeof behind_wide, "a byte behind a wide composite"},
+        {other_length, sizeof other_length, "57 01"},
         {large, 65536, "65536 bytes"},
         {large, 65542, "65542 bytes, which two bytes would take for 6"},
     };
@@ -135,6 +138,25 @@ static void log_room(void) {
     both_append(code, length, 50, 50, ISCC_AREA_TOO_SHORT, "at the end");
     for (size_t i = 0; i < sizeof past / sizeof *past; i++)
         both_append(code, length, 50, past[i], ISCC_AREA_TOO_SHORT, "past the end");
+}
+
+/* A wide composite in records: written, and replayed from an issue to a return. */
+static void log_wide(void) {
+    uint8_t log[80], *fresh = fresh_register(), *after = fresh_register();
+    both_append(wide_code, sizeof wide_code, 41, 0, ISCC_OK, "a wide composite");
+    appends(ISSUE, wide_code, sizeof wide_code, 5, 40, 0, ISCC_AREA_TOO_SHORT, "a wide composite, 40 bytes");
+    appends(RETURN, wide_code, sizeof wide_code, 0, 36, 0, ISCC_AREA_TOO_SHORT, "a wide composite, 36 bytes");
+    size_t start = put_record(log, ISSUE, wide_code, sizeof wide_code, 5);
+    size_t end = start + put_record(log + start, RETURN, wide_code, sizeof wide_code, 0);
+    put_place(after, 0, wide_code, sizeof wide_code, 5);
+    replay_gives(log, start, fresh, (loans_replayed){ISCC_OK, LOANS_RAN, 0}, after, "issue of a wide composite");
+    replay_gives(log, start, after, (loans_replayed){ISCC_ALREADY_OUT, LOANS_STOPPED, 0}, after, "a wide composite twice");
+    replay_gives(log, end - 1, fresh, (loans_replayed){ISCC_OK, LOANS_TORN, start}, after, "return that is not whole");
+    replay_gives(log, end, fresh, (loans_replayed){ISCC_OK, LOANS_RAN, 0}, fresh, "return of a wide composite");
+    log[start + 4] = 0x01; /* subtype 7 with another length */
+    replay_gives(log, end, fresh, (loans_replayed){ISCC_NOT_RECORD, LOANS_STOPPED, start}, after, "return of 57 01");
+    free(fresh);
+    free(after);
 }
 
 /* Three records, torn off behind each byte: the register is the one of the whole records, and the tear is told. */

@@ -154,7 +154,7 @@ fn spoil_free(random: &mut Random, place: &mut [u8]) {
 fn spoil_used(random: &mut Random, place: &mut [u8]) {
     let length = place[0];
     let fill = CODE + length as usize;
-    match random.below(9) {
+    match random.below(11) {
         0 => {
             // Of the longest code more bytes could be meant.
             place.copy_from_slice(&place_of(&longest(random), 7));
@@ -176,6 +176,11 @@ fn spoil_used(random: &mut Random, place: &mut [u8]) {
             place[random.pick(&[fill, ZERO - 1, any])] = random.byte() | 1;
         }
         7 => place[0] = 0,
+        8..=9 => {
+            let mut bytes = codes::nearly_wide(random);
+            bytes.truncate(42);
+            place.copy_from_slice(&place_of(&bytes, 7));
+        }
         _ => place[ZERO] = 1 + random.below(255) as u8,
     }
 }

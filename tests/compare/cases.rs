@@ -24,13 +24,23 @@ pub fn request(random: &mut Random, call: Call) -> Request {
         Call::HeaderWrite => request.header = numbers(random),
         Call::UnitRead => request.first = codes::items(random),
         Call::UnitWrite => (request.header, request.second) = header_and_body(random),
-        Call::Join => request.first = if random.percent(2) { codes::long_list(random) } else { codes::list(random) },
+        Call::Join => request.first = to_join(random),
         Call::Split => request.first = composite_bytes(random),
         Call::Issue | Call::TakeBack | Call::Ask | Call::Replay => return areas::request(random, call),
         Call::LogIssue | Call::LogReturn => return records::append(random, call),
     }
     request.area = area(random, &request);
     request
+}
+
+/// Mostly a list, sometimes a long one; or one item that is no unit, or not quite one.
+fn to_join(random: &mut Random) -> Vec<u8> {
+    match random.below(50) {
+        0 => codes::long_list(random),
+        1 => codes::composite(random),
+        2 => codes::nearly_wide(random),
+        _ => codes::list(random),
+    }
 }
 
 /// An area about as long as what is written, or of a boundary length.
@@ -96,7 +106,12 @@ fn raw_header(random: &mut Random) -> Vec<u8> {
 
 /// Mostly a permitted header with a body area about as long as it says.
 fn header_and_body(random: &mut Random) -> ([u32; 4], Vec<u8>) {
-    let item = if random.percent(10) { codes::composite(random) } else { codes::unit(random) };
+    let item = match random.below(30) {
+        0 => codes::wide(random),
+        1 => codes::nearly_wide(random),
+        2 => codes::composite(random),
+        _ => codes::unit(random),
+    };
     let mut header = [(item[0] >> 4) as u32, (item[0] & 15) as u32, 0, item[1] as u32];
     if random.percent(30) {
         let place = random.below(4);
@@ -115,7 +130,8 @@ fn header_and_body(random: &mut Random) -> ([u32; 4], Vec<u8>) {
 pub fn one_code(random: &mut Random) -> Vec<u8> {
     let mut bytes = match random.below(10) {
         0..=4 => codes::composite(random),
-        5..=8 => codes::unit(random),
+        5..=7 => codes::unit(random),
+        8 => codes::nearly_wide(random),
         _ => codes::items(random),
     };
     if random.percent(30) {
@@ -125,7 +141,11 @@ pub fn one_code(random: &mut Random) -> Vec<u8> {
 }
 
 fn composite_bytes(random: &mut Random) -> Vec<u8> {
-    let mut bytes = if random.percent(85) { codes::composite(random) } else { codes::items(random) };
+    let mut bytes = match random.below(20) {
+        0..=16 => codes::composite(random),
+        17 => codes::nearly_wide(random),
+        _ => codes::items(random),
+    };
     if random.percent(30) {
         codes::damage(random, &mut bytes);
     }
@@ -134,10 +154,15 @@ fn composite_bytes(random: &mut Random) -> Vec<u8> {
 
 /// Two units that mostly have a distance; a few bits or all differ, and the lengths may.
 fn two_units(random: &mut Random) -> (Vec<u8>, Vec<u8>) {
-    let mut a = if random.percent(90) { codes::unit(random) } else { codes::items(random) };
+    let mut a = match random.below(20) {
+        0 => codes::wide(random),
+        1 => codes::items(random),
+        _ => codes::unit(random),
+    };
     let mut b = a.clone();
     match random.below(5) {
         0 => b = codes::unit(random),
+        1 if random.percent(30) => b = codes::nearly_wide(random),
         1 => b = codes::items(random),
         _ if b.len() > 2 && b[0] >> 4 < 5 => {
             b[1] = random.below(8) as u8;

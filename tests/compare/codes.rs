@@ -29,7 +29,41 @@ pub fn unit(random: &mut Random) -> Vec<u8> {
     with_body(random, main_type, subtype, length, body)
 }
 
+/// A wide composite.
+pub fn wide(random: &mut Random) -> Vec<u8> {
+    with_body(random, 5, 7, 0, 32)
+}
+
+/// What is no wide composite by a little: its header has another length number, it is cut, or bytes are behind it.
+pub fn nearly_wide(random: &mut Random) -> Vec<u8> {
+    let mut bytes = wide(random);
+    match random.below(3) {
+        0 => {
+            bytes[1] = 1 + random.below(7) as u8;
+            let length = random.pick(&[18, 26, 34, 42, 50]);
+            bytes.resize(length, 0xff);
+        }
+        1 => bytes.truncate(2 + random.below(32)),
+        _ => {
+            let more = 1 + random.below(8);
+            bytes.extend(random.bytes(more));
+        }
+    }
+    bytes
+}
+
+/// DATA and INSTANCE of 128 bits, in either order: what a wide composite is split into, and no list that can be joined.
+fn units_of_wide(random: &mut Random) -> Vec<Vec<u8>> {
+    let mut units = vec![with_body(random, 3, 0, 3, 16), with_body(random, 4, 0, 3, 16)];
+    random.shuffle(&mut units);
+    units
+}
+
+/// A composite, in some cases a wide one.
 pub fn composite(random: &mut Random) -> Vec<u8> {
+    if random.percent(15) {
+        return wide(random);
+    }
     let length = random.below(8) as u8;
     let subtype = match length {
         0 => 5,
@@ -71,7 +105,7 @@ fn other_subtype(random: &mut Random, units: &mut [Vec<u8>]) {
 /// Breaks one of the rules on lists, or a rule on headers and bodies.
 fn spoil(random: &mut Random, units: &mut Vec<Vec<u8>>) {
     let at = random.below(units.len());
-    match random.below(9) {
+    match random.below(11) {
         0 => units.push(units[at].clone()),
         1 => units[at] = unit(random),
         2 => units.push(unit(random)),
@@ -80,6 +114,8 @@ fn spoil(random: &mut Random, units: &mut Vec<Vec<u8>>) {
         5 => other_subtype(random, units),
         6 => units[at].iter_mut().skip(1).take(1).for_each(|byte| *byte = random.byte() & 0x1f),
         7 => units[at] = random.bytes(2),
+        8 => units[at] = wide(random),
+        9 => *units = units_of_wide(random),
         _ => units[at].truncate(random.below(10)),
     }
     random.shuffle(units);
@@ -127,10 +163,12 @@ pub fn damage(random: &mut Random, bytes: &mut Vec<u8>) {
 
 /// Bytes for a reader of one item or more.
 pub fn items(random: &mut Random) -> Vec<u8> {
-    let mut bytes = match random.below(10) {
-        0..=1 => unit(random),
-        2..=3 => composite(random),
-        4..=8 => list(random),
+    let mut bytes = match random.below(20) {
+        0..=3 => unit(random),
+        4..=7 => composite(random),
+        8..=16 => list(random),
+        17 => refused(random),
+        18 => nearly_wide(random),
         _ => {
             let length = random.pick(&[0, 1, 2, 3, 8, 9, 10, 18, 20, 42, 50]);
             random.bytes(length)
@@ -164,7 +202,17 @@ pub fn refused(random: &mut Random) -> Vec<u8> {
     units.concat()
 }
 
-/// A code that shares most with another: a bit of its body differs, mostly in the last byte, or its first byte does.
+/// Bytes with a wide composite, or nearly one, that intake refuses: 8, 9, 10 and 11, and others where bytes are behind it.
+pub fn refused_wide(random: &mut Random) -> Vec<u8> {
+    match random.below(6) {
+        0 => units_of_wide(random).concat(),
+        1 => [wide(random), with_body(random, 3, 0, 1, 8)].concat(),
+        _ => nearly_wide(random),
+    }
+}
+
+/// A code that shares most with another: a bit of its body differs, mostly in the last byte, or its first byte does. A
+/// composite of 34 bytes gets the header of another one, or of a wide one.
 fn neighbour(random: &mut Random, code: &[u8]) -> Vec<u8> {
     let mut code = code.to_vec();
     let last = code.len() - 1;
@@ -172,6 +220,7 @@ fn neighbour(random: &mut Random, code: &[u8]) -> Vec<u8> {
     let at = random.pick(&[last, last, 0, 2, any]);
     match at {
         0 if code[0] >> 4 < 5 => code[0] = random.pick(&[0x00, 0x10, 0x14, 0x20, 0x21, 0x30, 0x40]),
+        0 if code.len() == 34 => code[..2].copy_from_slice(&random.pick(&[[0x57, 0], [0x50, 3], [0x50, 5], [0x54, 6]])),
         0 => (),
         _ => code[at] ^= 1 << random.below(8),
     }

@@ -5,7 +5,7 @@ use crate::areas::{self, Filled};
 use crate::random::Random;
 use crate::records::{self, Change};
 use crate::seen::Seen;
-use crate::{codes, texts, MOST_DIFFERENCES};
+use crate::{codes, texts, wide, MOST_DIFFERENCES};
 use harness::call::{Call, Request, Response};
 use harness::expected;
 use harness::library::{Case, Library};
@@ -200,7 +200,7 @@ impl Run<'_> {
             let told: String = fields.collect();
             return Err(format!("\n  {request}\n  by live calls, but not by the reference:{told}\n  {again}"));
         }
-        self.seen.count(Call::Replay, &due);
+        self.seen.count(&request, &due);
         self.replays += 1;
         Ok(due)
     }
@@ -315,7 +315,7 @@ enum Stop {
 /// Compares the logs of a range; each case that differs is told, with the command that runs it again.
 pub fn check(tally: &mut Tally, library: &mut Library, seed: u64, range: Range<u64>) {
     let (mut seen, mut differences, mut logs, mut replays) = (Seen::default(), Vec::new(), 0, 0);
-    let is_one = range.end - range.start == 1;
+    let cases = range.end - range.start;
     for number in range {
         let random = Random::of_case(seed, u64::MAX - 3, number);
         let case = Case { of: "log", number };
@@ -327,7 +327,10 @@ pub fn check(tally: &mut Tally, library: &mut Library, seed: u64, range: Range<u
             break;
         }
     }
-    let few = if is_one { Vec::new() } else { seen.few(Call::Replay, Call::Replay.numbers()) };
+    let few = match cases {
+        1 => Vec::new(),
+        _ => seen.few(Call::Replay, Call::Replay.numbers(), wide::in_sequences(cases)),
+    };
     let run = format!("{logs} logs, {replays} replays");
     let detail = match (differences.is_empty(), few.is_empty()) {
         (true, true) => format!("{run}, no difference; by number and end {}", seen.shown(Call::Replay)),

@@ -11,6 +11,7 @@ mod records;
 mod register;
 mod seen;
 mod texts;
+mod wide;
 
 use harness::call::{Call, Request, Response};
 use harness::expected;
@@ -153,7 +154,7 @@ fn compare(library: &mut Library, seed: u64, call: Call, index: usize, range: Ra
         let mut random = Random::of_case(seed, index as u64, number);
         let request = cases::request(&mut random, call);
         match one(library, &Case { of: call.name(), number }, &request, &setting(&mut random)) {
-            Ok(due) => outcome.seen.count(call, &due),
+            Ok(due) => outcome.seen.count(&request, &due),
             Err(difference) => outcome.differences.push(difference),
         }
         outcome.cases += 1;
@@ -203,7 +204,7 @@ fn report(tally: &mut Tally, call: Call, outcome: &Outcome) {
     if !outcome.differences.is_empty() {
         return tally.check(&name, false, format!("{} cases run{}", outcome.cases, outcome.differences.concat()));
     }
-    let few = outcome.seen.few(call, call.numbers());
+    let few = outcome.seen.few(call, call.numbers(), wide::kinds(call));
     if !few.is_empty() && outcome.cases > 1 {
         return tally.check(&name, false, format!("the cases hardly reach {}", few.join(", ")));
     }

@@ -48,7 +48,7 @@ pub fn no_record(random: &mut Random, lengths: &[usize]) -> Vec<u8> {
     let code = if random.percent(50) { codes::unit(random) } else { codes::composite(random) };
     let issue = [areas::borrower(random).to_be_bytes().to_vec(), code.clone()].concat();
     let tag = random.pick(&[ISSUE, RETURN]);
-    match random.below(10) {
+    match random.below(14) {
         0 => record(random.pick(&[0, 3, 4, 0x81, 0xff]), &issue),
         1 => record(random.pick(&[0, 3, 4, 0x82, 0xff]), &code),
         2 => record(random.pick(&[0, 0, 1, 2, 3, 255]), &[]),
@@ -58,6 +58,8 @@ pub fn no_record(random: &mut Random, lengths: &[usize]) -> Vec<u8> {
         6 => record(tag, &issue[..issue.len() - 1]),
         7 => record(RETURN, &codes::units_of_composite(random).concat()),
         8 => record(ISSUE, &[&issue[..4], &codes::units_of_composite(random).concat()].concat()),
+        9..=10 => record(RETURN, &codes::nearly_wide(random)),
+        11..=12 => record(ISSUE, &[&issue[..4], &codes::nearly_wide(random)].concat()),
         _ => {
             let length = random.pick(lengths);
             record(tag, &random.bytes(length))
@@ -66,7 +68,7 @@ pub fn no_record(random: &mut Random, lengths: &[usize]) -> Vec<u8> {
 }
 
 /// Where the records of a log start, as far as they can be read.
-fn starts(log: &[u8]) -> Vec<usize> {
+pub fn starts(log: &[u8]) -> Vec<usize> {
     let (mut starts, mut at) = (Vec::new(), 0);
     while let Some(&[_, high, low]) = log.get(at..).and_then(<[u8]>::first_chunk) {
         starts.push(at);
@@ -104,7 +106,7 @@ pub fn log(random: &mut Random, codes: &[Vec<u8>], used: usize) -> Vec<u8> {
             true => random.below(used),
             false => used + random.below(codes.len() - used),
         };
-        if random.percent(6) {
+        if random.percent(10) {
             log.extend(no_record(random, &[255, 256, 257, 1000, 65_535]));
         } else {
             let issues = out[code] != random.percent(90);

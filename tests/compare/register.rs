@@ -3,7 +3,7 @@
 
 use crate::random::Random;
 use crate::seen::Seen;
-use crate::{areas, codes, texts, MOST_DIFFERENCES};
+use crate::{areas, codes, texts, wide, MOST_DIFFERENCES};
 use harness::call::{Call, Request, Response};
 use harness::expected;
 use harness::library::{Case, Library};
@@ -88,18 +88,17 @@ fn run(library: &mut Library, seed: u64, case: &Case, seen: &mut [Seen; 3]) -> R
             return Err(format!(" call {index}:{difference}"));
         }
         let which = Call::REGISTER.iter().position(|&one| one == call).expect("a call on a register");
-        seen[which].count(call, &due);
+        seen[which].count(&request, &due);
         area = if call.changes() { due.written } else { request.second };
     }
     Ok(())
 }
 
-/// The numbers that hardly came out, a line for each call.
-fn hardly(seen: &[Seen; 3]) -> String {
-    let few = Call::REGISTER.into_iter().zip(seen).map(|(call, seen)| (call.name(), seen.few(call, own_numbers(call))));
-    few.filter(|(_, few)| !few.is_empty())
-        .map(|(name, few)| format!("\n {name} hardly answers {}", few.join(", ")))
-        .collect()
+/// The numbers and the kinds of wide composites that hardly came out, a line for each call.
+fn hardly(seen: &[Seen; 3], kinds: &[usize]) -> String {
+    let few = |(call, seen): (Call, &Seen)| (call.name(), seen.few(call, own_numbers(call), kinds));
+    let few = Call::REGISTER.into_iter().zip(seen).map(few).filter(|(_, few)| !few.is_empty());
+    few.map(|(name, few)| format!("\n {name} hardly brings out {}", few.join(", "))).collect()
 }
 
 /// What came out, a line for each call.
@@ -122,7 +121,7 @@ pub fn check(tally: &mut Tally, library: &mut Library, seed: u64, range: Range<u
             break;
         }
     }
-    let hardly = if is_one { String::new() } else { hardly(&seen) };
+    let hardly = if is_one { String::new() } else { hardly(&seen, wide::in_sequences(sequences)) };
     let detail = match (differences.is_empty(), hardly.is_empty()) {
         (true, true) => format!("{sequences} sequences, no difference{}", counts(&seen)),
         (true, false) => format!("{sequences} sequences{hardly}"),

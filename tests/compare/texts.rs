@@ -127,11 +127,11 @@ pub fn base32_run(random: &mut Random, bytes: &[u8]) -> Vec<u8> {
     text
 }
 
-/// One of the many texts of a code; the units of a composite may stand one by one, in any order.
+/// One of the many texts of a code; the units of a composite may stand one by one, in any order, but not those of a wide one.
 pub fn of_code(random: &mut Random, code: &[u8]) -> Vec<u8> {
     let mut units: Vec<Vec<u8>> = match composite::split(code, usize::MAX) {
-        Ok(units) => units.chunks(10).map(<[u8]>::to_vec).collect(),
-        Err(_) => Vec::new(),
+        Ok(units) if code[0] != 0x57 => units.chunks(10).map(<[u8]>::to_vec).collect(),
+        _ => Vec::new(),
     };
     random.shuffle(&mut units);
     let bytes = if units.is_empty() || random.percent(50) { code.to_vec() } else { units.concat() };
@@ -175,6 +175,10 @@ pub fn for_loan(random: &mut Random, code: &[u8]) -> Vec<u8> {
             let mut text = of_code(random, code);
             damage(random, &mut text);
             text
+        }
+        8..=9 => {
+            let run = base32::encode(&codes::refused_wide(random));
+            respell(random, &run)
         }
         _ => of_code(random, code),
     }

@@ -138,13 +138,15 @@ def check_homes(document: Document, index: Index, tally: Tally) -> None:
 
 # The records that the trace owes each field of: their file, their names, and how many fields they have at least.
 PROMISES = {
-    "crates/iscc/specs/Demands.antt": (r"Demand[123]\.", 41),
+    "crates/iscc/specs/Demands.antt": (r"Demand[123]\.", 42),
+    "crates/iscc/specs/WideComposites.antt": (r"\w+\.", 22),
     "crates/loans/specs/Promises.antt": (r"\w+\.", 20),
     "crates/loans/specs/Good.antt": (r"Sound\.", 4),
     "crates/loans/specs/LogPromises.antt": (r"\w+\.", 16),
     "crates/loans/specs/Tears.antt": (r"(Tears|TornOff)\.", 6),
     "crates/loans/specs/LogOrder.antt": (r"StopTold\.", 5),
     "crates/loans/specs/Writer.antt": (r"Appended\.", 5),
+    "crates/loans/specs/WideLoans.antt": (r"\w+\.", 4),
 }
 
 

@@ -65,6 +65,12 @@ impl Asked {
         format!("{step} {}", if torn { "torn" } else { &self.due[0].1 })
     }
 
+    /// Whether the answer is older than wide composites: 24 for the record of one.
+    pub fn is_overtaken(&self) -> bool {
+        let is_wide = self.request.first.len() == 34 && self.request.first.starts_with(&[0x57, 0x00]);
+        is_wide && self.kind() == "append 24"
+    }
+
     /// The same columns of a response. The C interface has no value for `told` and `looks`, which are 0 throughout.
     pub fn fields_of(&self, response: &Response) -> Fields {
         let mut fields = response.fields(self.call());

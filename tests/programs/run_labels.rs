@@ -69,6 +69,21 @@ impl Labels {
         let request = Request { first: hex::decode(bytes).expect("hex"), area: 80, ..Request::new(call) };
         self.expect(request, Response::refused(number));
     }
+
+    /// The reader of one unit uses so many of the bytes.
+    fn used(&mut self, bytes: &str, header: [u64; 4], used: u64) {
+        let [main_type, subtype, version, length] = header;
+        let request = Request { first: hex::decode(bytes).expect("hex"), ..Request::new(Call::UnitRead) };
+        self.expect(request, Response { values: [main_type, subtype, version, length, used], ..Response::default() });
+    }
+
+    /// Bytes into bytes, on an area of just their length; 15 on one that is a byte shorter.
+    fn gives(&mut self, call: Call, bytes: &str, due: &str) {
+        let [first, due] = [bytes, due].map(|text| hex::decode(text).expect("hex"));
+        let request = Request { first, area: due.len(), ..Request::new(call) };
+        self.expect(Request { area: due.len() - 1, ..request.clone() }, Response::refused(15));
+        self.expect(request, Response::written(due));
+    }
 }
 
 fn varnibbles(labels: &mut Labels) {
@@ -89,10 +104,61 @@ fn headers(labels: &mut Labels) {
     labels.header([5, 5, 0, 0], "5500");
     labels.header([8, 0, 0, 0], "800000");
     labels.read(Call::HeaderRead, "800001", 7);
-    labels.read(Call::UnitRead, "5700", 8);
-    labels.read(Call::UnitRead, &format!("5700{}", "00".repeat(32)), 8);
-    labels.read(Call::Join, &format!("5700{}", "00".repeat(32)), 8);
-    labels.read(Call::Split, &format!("5700{}", "00".repeat(32)), 8);
+}
+
+/// Header 57 00 and zeros behind it; and subtype 7 with any other length.
+fn header_5700(labels: &mut Labels) {
+    let with_zeros = |header: &str, count| format!("{header}{}", "00".repeat(count));
+    let whole = with_zeros("5700", 32);
+    labels.header([5, 7, 0, 0], "5700");
+    labels.read(Call::UnitRead, "5700", 9);
+    labels.read(Call::UnitRead, &with_zeros("5700", 31), 9);
+    labels.used(&whole, [5, 7, 0, 0], 34);
+    labels.used(&with_zeros("5700", 40), [5, 7, 0, 0], 34);
+    labels.read(Call::Join, &whole, 10);
+    labels.read(Call::Join, &with_zeros("5700", 31), 9);
+    labels.gives(Call::Split, &whole, &[with_zeros("3003", 16), with_zeros("4003", 16)].concat());
+    labels.read(Call::Split, &with_zeros("5700", 31), 9);
+    labels.read(Call::Split, &with_zeros("5700", 33), 19);
+    let write = |header| Request { header, second: vec![0; 32], area: 80, ..Request::new(Call::UnitWrite) };
+    labels.expect(write([5, 7, 0, 0]), Response::refused(8));
+    for length in 1..8 {
+        let bytes = with_zeros(&format!("570{length}"), 40);
+        for call in [Call::UnitRead, Call::Join, Call::Split, Call::Text] {
+            labels.read(call, &bytes, 8);
+        }
+    }
+}
+
+/// A wide composite, its text, and its two units of 128 bits, which are no list that makes it.
+fn wide(labels: &mut Labels) {
+    let text = "ISCC:K4AAAAICAMCAKBQHBAEQUCYMBUHA6EARCIJRIFIWC4MBSGQ3DQOR4HY";
+    let small = " iscc:k4aaaaicamcakbqhbaeq-ucymbuha6-earcijrifiwc4mbsgq3dqor4hy-\n";
+    let bytes = "5700000102030405060708090a0b0c0d0e0f101112131415161718191a1b1c1d1e1f";
+    let (data, instance) = ("3003000102030405060708090a0b0c0d0e0f", "4003101112131415161718191a1b1c1d1e1f");
+    labels.written(text, text);
+    labels.written(&text[5..], text);
+    labels.written(small, text);
+    labels.strict(text, 0);
+    labels.strict(small, 16);
+    for typed in [text, small] {
+        let request = Request { first: typed.into(), area: 42, ..Request::new(Call::Code) };
+        labels.expect(request, Response::written(hex::decode(bytes).expect("hex")));
+    }
+    let request = Request { first: hex::decode(bytes).expect("hex"), area: 73, ..Request::new(Call::Text) };
+    labels.expect(request, Response::written(text.into()));
+    labels.gives(Call::Split, bytes, &[data, instance].concat());
+    labels.read(Call::Join, &[data, instance].concat(), 11);
+    labels.read(Call::Join, &[instance, data].concat(), 11);
+    labels.read(Call::Join, &[bytes, data].concat(), 10);
+    labels.read(Call::Join, &[data, bytes].concat(), 10);
+    // Both units in one run, the wide composite with the DATA unit of the line case before it, and its first 33 bytes.
+    labels.refused("GABQAAICAMCAKBQHBAEQUCYMBUHA6QADCAIREEYUCULBOGAZDINRYHI6D4", 11);
+    labels.refused("GAAW2PRCRS5LNVZV-K4AAAAICAMCAKBQHBAEQUCYMBUHA6EARCIJRIFIWC4MBSGQ3DQOR4HY", 10);
+    labels.refused("K4AAAAICAMCAKBQHBAEQUCYMBUHA6EARCIJRIFIWC4MBSGQ3DQOR4", 9);
+    let both = hex::decode(bytes).expect("hex");
+    let request = Request { first: both.clone(), second: both, ..Request::new(Call::Distance) };
+    labels.expect(request, Response::refused(18));
 }
 
 fn line_case(labels: &mut Labels) {
@@ -158,9 +224,11 @@ fn published(labels: &mut Labels) {
     labels.refused("fcc010001657fe7cafe9791bb", 4);
 }
 
-const BLOCKS: [(&str, fn(&mut Labels)); 8] = [
+const BLOCKS: [(&str, fn(&mut Labels)); 10] = [
     ("varnibbles", varnibbles),
     ("headers", headers),
+    ("header_5700", header_5700),
+    ("wide", wide),
     ("line_case", line_case),
     ("one_unit", one_unit),
     ("short_texts", short_texts),

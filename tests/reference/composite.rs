@@ -32,15 +32,16 @@ pub fn from_list(items: &[Item]) -> Answer<Item> {
     Ok(Item { header: [ISCC, subtype, 0, length], body })
 }
 
-/// The units of a composite in its order, each of 64 bits.
+/// The units of a composite in its order: each of 128 bits where it is wide, else of 64.
 fn units(composite: &Item) -> Vec<Item> {
     let length = composite.header[3];
+    let bits = unit::bits_of_unit(composite.subtype());
     let present = ORDER.iter().filter(|&&(_, adds)| adds == 0 || length & adds != 0);
     let unit = |(&(main_type, _), body): (&(u32, u32), &[u8])| {
         let subtype = if matches!(main_type, SEMANTIC | CONTENT) { composite.subtype() } else { 0 };
-        Item { header: [main_type, subtype, 0, 1], body: body.to_vec() }
+        Item { header: [main_type, subtype, 0, bits / 32 - 1], body: body.to_vec() }
     };
-    present.zip(composite.body.chunks(8)).map(unit).collect()
+    present.zip(composite.body.chunks(bits as usize / 8)).map(unit).collect()
 }
 
 /// Join: 7 to 9 from the left; for one item 10 or 13, for more 10 to 14; then 15.

@@ -12,6 +12,9 @@ pub const INSTANCE: u32 = 4;
 pub const ISCC: u32 = 5;
 pub const ID: u32 = 6;
 
+/// The subtype of a wide composite.
+pub const WIDE: u32 = 7;
+
 /// One unit or composite.
 #[derive(Clone, Debug)]
 pub struct Item {
@@ -52,16 +55,22 @@ pub fn body_length([main_type, subtype, version, length]: Header) -> Option<usiz
 
 /// The same of a composite: DATA, INSTANCE and a unit for each one bit of the length number.
 fn composite_length(subtype: u32, version: u32, length: u32) -> Option<usize> {
-    let subtypes = match length {
-        0 => 5..=5,
-        4 => 6..=6,
-        1..=7 => 0..=4,
-        _ => return None,
+    let permitted = match length {
+        0 => matches!(subtype, 5 | WIDE),
+        4 => subtype == 6,
+        1..=7 => subtype <= 4,
+        _ => false,
     };
-    if version == 0 && subtypes.contains(&subtype) {
-        Some(8 * (2 + length.count_ones() as usize))
+    let bits = (2 + length.count_ones()) * bits_of_unit(subtype);
+    (version == 0 && permitted).then_some(bits as usize / 8)
+}
+
+/// The bits of each unit in a composite of this subtype.
+pub(crate) fn bits_of_unit(subtype: u32) -> u32 {
+    if subtype == WIDE {
+        128
     } else {
-        None
+        64
     }
 }
 

@@ -11,7 +11,7 @@ ghost use Rattle.iscc.specs.Representation.{writtenAs};
 use iscc::refusal::Refusal;
 use iscc::written::Written;
 
-fn wide(byte: u8) -> u64
+fn widen(byte: u8) -> u64
     ensures { λ r. ⌜ (r ≡ byte) × (r < 256) ⌝ }
 {
     byte as u64
@@ -25,7 +25,7 @@ pub(crate) fn load(bytes: &[u8], at: usize, count: usize) -> u64
     let mut number: u64 = 0;
     let mut i = 0;
     while i < count {
-        number = number * 256 + wide(bytes[at + i]);
+        number = number * 256 + widen(bytes[at + i]);
         i += 1;
     }
     number

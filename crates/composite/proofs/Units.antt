@@ -4,24 +4,23 @@ use mathlib.Core.Path.{_≡_, refl, sym, _∙_, ap, ap₂, subst, subst⁻¹}
 use mathlib.Core.Bool.{Bool, true, false, cond, false≢true, or-true}
 use mathlib.Core.List.{List, [], _∷_, _++_, map, flatten, append-nil}
 use native.Mathlib.Omega.{arith}
-use lib.ListN.{length, take, drop, getD, length-append, length-drop, length-map, drop-of-length-le}
+use lib.ListN.{length, take, drop, getD, length-drop, length-map, drop-of-length-le}
 use lib.Seq.{take-all, drop-drop}
 use lib.Dec.{eqb, lit<}
-use borrow.Author.Tests.{eq-eqb, lt-ltb, le-leb}
+use borrow.Author.Tests.{eq-eqb, le-leb}
 use Rattle.iscc.specs.Refusals.{Refusal, notPermitted}
-use Rattle.iscc.specs.Answer.{Answer, accept, refuse, _>>=_, areaAfter}
+use Rattle.iscc.specs.Answer.{accept, refuse, _>>=_, areaAfter}
 use Rattle.iscc.specs.Digits.{Below}
-use Rattle.iscc.specs.Header.{headerBytes}
-use Rattle.iscc.specs.Permitted.{MainType, SEMANTIC, CONTENT, ISCC, ID, number, typeOf, mainTypeOf, isUnit, Set, setOf, setLengthNumber, unitTypes, unitCount, compositeSubtype, row, permits, bodyBytes}
+use Rattle.iscc.specs.Header.{headerWithNumbers}
+use Rattle.iscc.specs.Permitted.{MainType, SEMANTIC, CONTENT, ISCC, ID, number, typeOf, isUnit, Set, setOf, setLengthNumber, unitTypes, unitCount, compositeSubtype, isWide, row, permits, bodyBytes}
 use Rattle.iscc.specs.Meaning.{composite, Permitted}
-use Rattle.iscc.specs.Item.{Item, itemBytes, readOne, unitBytes, writeUnit, compositeOf, meaningAs, meaningOf}
+use Rattle.iscc.specs.Item.{Item, itemBytes, readOne, writeUnit, compositeOf, wideOf, meaningAs, meaningOf}
 use Rattle.iscc.specs.Lists.{All}
 use Rattle.iscc.specs.Items.{unit64, unitWith, unitsOf, itemsBytes, splitBytes}
 use Rattle.iscc.specs.Representation.{mainTypeAs}
 use Rattle.tables.specs.Representation.{unitSetAs}
 use Rattle.iscc.specs.declared.main_type.MainType as code
 use Rattle.tables.specs.declared.UnitSet.{UnitSet}
-use Rattle.iscc.proofs.Header.{length-short}
 use Rattle.iscc.proofs.Lists.{all-at, map-at, zip-at}
 use Rattle.iscc.proofs.Cut.{cut-at}
 use Rattle.iscc.proofs.Permitted.{unit-or-composite, number-type, setLengthNumber-back, set-back, count-most, small, subtype-low, types-count, types-all, type-number}
@@ -40,6 +39,8 @@ use Rattle.composite.specs.Code.{Sound, InComposite, unitOf, unitAt, spl
 use Rattle.iscc.proofs.Parts.{rest-is}
 use Rattle.composite.proofs.Parts.{laid-length, laid-same, laid-flat, filled-at, filled-same}
 use Rattle.composite.proofs.FromSummary.{unit-at}
+use Rattle.composite.specs.Wide.{wideUnits}
+use Rattle.composite.proofs.OneUnit.{unit-size, unit-over}
 use Rattle.composite.proofs.Bytes.{sound-of}
 
 -- ---- one unit of 64 bits
@@ -72,32 +73,18 @@ module _ (m : code.MainType) (s : ℕ) (body d : List ℕ) (h : InComposite (m .
   abbrev there : UnitRow (m .number) s
   there = unit-there s (m .number) h f
 
-  named : mainTypeOf (m .number) ≡ accept (typeOf (m .number))
-  unfolding mainTypeOf
-  named = rw (lt-ltb (m .number) 7 (omega arith))
+  sized : length body ≡ bodyBytes (typeOf (m .number)) own 1
+  sized = l ∙ sym (there .eight)
 
   pub unit-length : length (itemBytes (unitOf (m .number) s body)) ≡ 10
-  unfolding itemBytes
-  unit-length =
-      let p = small (typeOf (m .number)) own 0 1 (there .permitted) in
-      let k : number (typeOf (m .number)) ≡ m .number = number-type (m .number) (omega arith) in
-      let e : length (headerBytes (record { mainType = number (typeOf (m .number)); subtype = own; version = 0; lengthNumber = 1 })) ≡ 2 =
-      length-short (record { mainType = number (typeOf (m .number)); subtype = own; version = 0; lengthNumber = 1 }) (omega arith) (omega (arith, p .subtype)) (omega arith) (omega arith) in
-      length-append (headerBytes (record { mainType = number (typeOf (m .number)); subtype = own; version = 0; lengthNumber = 1 })) body ∙ omega (arith, e, l)
-
-  bytes-are : unitBytes (headerWith m own 0 1) body ≡ accept (itemBytes (unitOf (m .number) s body))
-  unfolding unitBytes itemBytes
-  bytes-are =
-      let k : number (typeOf (m .number)) ≡ m .number = number-type (m .number) (omega arith) in
-      let t : take 8 body ≡ body = take-all 8 body (omega arith) in
-      rw (named, there .single, there .permitted, there .eight, l, t, k)
+  unit-length = unit-size (unitOf (m .number) s body) (there .single) (there .permitted) sized ∙ omega (arith, l)
 
   -- what the unit writer leaves of a part that holds the unit
   pub unit-written : 10 ≤ length d → areaAfter (writeUnit (headerWith m own 0 1) body (length d)) d ≡ itemBytes (unitOf (m .number) s body) ++ drop 10 d
   unit-written g =
-      let w : writeUnit (headerWith m own 0 1) body (length d) ≡ accept (itemBytes (unitOf (m .number) s body)) =
-      rw (bytes-are, unit-length, le-leb 10 (length d) g) in
-      ap (λ (r : Answer (List ℕ)). areaAfter r d) w ∙ ap (λ (k : ℕ). itemBytes (unitOf (m .number) s body) ++ drop k d) unit-length
+      ap (λ (n : ℕ). areaAfter (writeUnit (headerWithNumbers n own 0 1) body (length d)) d) (sym (number-type (m .number) (omega arith)))
+      ∙ unit-over (unitOf (m .number) s body) (there .single) (there .permitted) sized d (omega (arith, l))
+      ∙ ap (λ (k : ℕ). itemBytes (unitOf (m .number) s body) ++ drop k d) unit-length
 
 -- what `unit_subtype` returns
 module _ (n s : ℕ) (r : Bool) (e : r ≡ eqb n (number SEMANTIC)) where
@@ -249,7 +236,7 @@ other-type s v l body =
 abbrev itemValue : ℕ → ℕ → List ℕ → Composite
 itemValue s l body = parts l s (filledBodies (λ i. take 8 (drop (i * 8) body)) (unitCount (setOf l)) 5)
 
-module _ (s v l : ℕ) (body : List ℕ) (p : PermittedItem (record { mainType = ISCC; subtype = s; version = v; lengthNumber = l; body = body })) where
+module _ (s v l : ℕ) (body : List ℕ) (n : isWide s l ≡ false) (p : PermittedItem (record { mainType = ISCC; subtype = s; version = v; lengthNumber = l; body = body })) where
   abbrev item : Item
   item = record { mainType = ISCC; subtype = s; version = v; lengthNumber = l; body = body }
 
@@ -261,20 +248,32 @@ module _ (s v l : ℕ) (body : List ℕ) (p : PermittedItem (record { mainType =
       bodies-in s v (setOf l) body
       ∙ ap (λ (n : ℕ). parts n s (filledBodies (λ i. take 8 (drop (i * 8) body)) (unitCount (setOf l)) 5)) (setLengthNumber-back l small-number)
 
-  bodies-permitted : Permitted (compositeOf s v (setOf l) body)
+  means-bodies : meaningOf item ≡ compositeOf s v (setOf l) body
   unfolding meaningAs
-  bodies-permitted = meant-item item p
+  means-bodies = rw n
+
+  bodies-permitted : Permitted (compositeOf s v (setOf l) body)
+  bodies-permitted = subst Permitted means-bodies (meant-item item p)
 
   pub value-sound : Sound (itemValue s l body)
   unfolding compositeOf
   value-sound = subst Sound as-value (sound-of s v (setOf l) _ bodies-permitted)
 
   units-laid : (unitsOf (meaningOf item) >>= λ is. accept (itemsBytes is)) ≡ accept (splitInto (compositeAs (compositeOf s v (setOf l) body)))
-  unfolding meaningAs compositeOf unitsOf
-  units-laid = ap accept (split-laid s v (setOf l) _ bodies-permitted)
+  unfolding compositeOf unitsOf
+  units-laid = rw means-bodies (ap accept (split-laid s v (setOf l) _ bodies-permitted))
 
   pub value-units : (unitsOf (meaningOf item) >>= λ is. accept (itemsBytes is)) ≡ accept (splitInto (itemValue s l body))
   value-units = units-laid ∙ ap (λ (c : Composite). accept (splitInto c)) as-value
+
+-- a wide composite's body, and the units that it is split into
+wide-units : (s v l : ℕ) (body bs : List ℕ) → isWide s l ≡ true → body ≡ drop 2 bs → length bs ≡ 34
+    → (unitsOf (meaningAs ISCC s v l body) >>= λ is. accept (itemsBytes is)) ≡ accept (wideUnits bs)
+unfolding meaningAs wideOf unitsOf itemsBytes wideUnits
+wide-units s v l body bs w e z =
+    let n : length (drop 18 bs) ≤ 16 = omega (arith, length-drop 18 bs) in
+    let d : drop 16 (drop 2 bs) ≡ take 16 (drop 18 bs) = drop-drop 16 2 bs ∙ sym (take-all 16 (drop 18 bs) n) in
+    rw (w, e, d, append-nil)
 
 pub split-unread : (bs : List ℕ) (q : Refusal) → readOne bs ≡ refuse q → splitBytes bs ≡ refuse q
 unfolding splitBytes
@@ -294,35 +293,53 @@ module _ (bs : List ℕ) (u : Unit) (w : OneIs bs u) where
     type-is : w .item .mainType ≡ ISCC
     type-is = sameType-eq (w .item .mainType) ISCC (eq-eqb (number (w .item .mainType)) (number ISCC) (w .mainType ∙ composed))
 
-    pub code-room : 2 + unitCount (setOf (u .«length_number»)) * 8 ≤ length bs
+    whole-size : length bs ≡ 2 + cond (isWide (u .subtype) (u .«length_number»)) 32 (unitCount (setOf (u .«length_number»)) * 8)
     unfolding bodyBytes
-    code-room = omega (arith, rw (type-is, w .lengthNumber) at (w .whole))
+    whole-size = rw (type-is, w .subtype, w .lengthNumber) at (w .whole)
+
+    body-is : w .item .body ≡ drop 2 bs
+    body-is = w .body ∙ ap (λ (k : ℕ). drop k bs) (w .start)
+
+    abbrev whole : Item
+    whole = record { mainType = ISCC; subtype = u .subtype; version = w .item .version; lengthNumber = u .«length_number»; body = w .item .body }
+
+    whole-is : w .item ≡ whole
+    whole-is = as-composite (w .item) (u .subtype) (u .«length_number») type-is (w .subtype) (w .lengthNumber)
+
+    -- a wide one
+    module _ {t : Bool} (e : t ≡ isWide (u .subtype) (u .«length_number»)) (y : t ≡ true) where
+      pub wide-room : length bs ≡ 34
+      wide-room = rw (← e, y) at whole-size
+
+      pub wide-whole : splitBytes bs ≡ accept (wideUnits bs)
+      unfolding splitBytes
+      wide-whole =
+          rw (w .is) (ap (λ (i : Item). unitsOf (meaningOf i) >>= λ is. accept (itemsBytes is)) whole-is)
+          ∙ wide-units (u .subtype) (w .item .version) (u .«length_number») (w .item .body) bs (sym e ∙ y) body-is wide-room
 
     abbrev splitValue : Composite
     splitValue = parts (u .«length_number») (u .subtype) (filledBodies (λ i. take 8 (drop (2 + i * 8) bs)) (unitCount (setOf (u .«length_number»))) 5)
 
     same-value : itemValue (u .subtype) (u .«length_number») (w .item .body) ≡ splitValue
     same-value =
-        let e : w .item .body ≡ drop 2 bs = w .body ∙ ap (λ (k : ℕ). drop k bs) (w .start) in
         ap (parts (u .«length_number») (u .subtype))
-        (filled-same _ _ (unitCount (setOf (u .«length_number»))) 5 (λ i h. ap (take 8) (ap (drop (i * 8)) e ∙ drop-drop (i * 8) 2 bs)))
+        (filled-same _ _ (unitCount (setOf (u .«length_number»))) 5 (λ i h. ap (take 8) (ap (drop (i * 8)) body-is ∙ drop-drop (i * 8) 2 bs)))
 
-    module _ (k : Below 256 bs) where
-      abbrev whole : Item
-      whole = record { mainType = ISCC; subtype = u .subtype; version = w .item .version; lengthNumber = u .«length_number»; body = w .item .body }
+    -- one of 64 bits a unit
+    module _ {t : Bool} (q : t ≡ isWide (u .subtype) (u .«length_number»)) (x : t ≡ false) where
+      pub code-room : 2 + unitCount (setOf (u .«length_number»)) * 8 ≤ length bs
+      code-room = omega (arith, rw (← q, x) at whole-size)
 
-      whole-is : w .item ≡ whole
-      whole-is = as-composite (w .item) (u .subtype) (u .«length_number») type-is (w .subtype) (w .lengthNumber)
-
+    module _ {t : Bool} (q : t ≡ isWide (u .subtype) (u .«length_number»)) (x : t ≡ false) (k : Below 256 bs) where
       permitted-is : PermittedItem whole
       permitted-is = subst PermittedItem whole-is (one-read bs (w .item) k (w .is) .0)
 
       pub split-sound : (c : Composite) → c ≡ splitValue → Sound c
-      split-sound c e = subst⁻¹ Sound (e ∙ sym same-value) (value-sound (u .subtype) (w .item .version) (u .«length_number») (w .item .body) permitted-is)
+      split-sound c e = subst⁻¹ Sound (e ∙ sym same-value) (value-sound (u .subtype) (w .item .version) (u .«length_number») (w .item .body) (sym q ∙ x) permitted-is)
 
       pub split-whole : (c : Composite) → c ≡ splitValue → splitBytes bs ≡ accept (splitInto c)
       unfolding splitBytes
       split-whole c e =
           rw (w .is) (ap (λ (i : Item). unitsOf (meaningOf i) >>= λ is. accept (itemsBytes is)) whole-is)
-          ∙ value-units (u .subtype) (w .item .version) (u .«length_number») (w .item .body) permitted-is
+          ∙ value-units (u .subtype) (w .item .version) (u .«length_number») (w .item .body) (sym q ∙ x) permitted-is
           ∙ ap (λ (x : Composite). accept (splitInto x)) (same-value ∙ sym e)

@@ -6,7 +6,7 @@ use mathlib.Core.List.{List, [], _∷_, _++_}
 use lib.ListN.{getD, replicate}
 use Rattle.iscc.specs.Answer.{accept}
 use Rattle.iscc.specs.Permitted.{META, SEMANTIC, CONTENT, Set, setLengthNumber, unitCount}
-use Rattle.iscc.specs.Meaning.{Meaning, unit, composite, Permitted}
+use Rattle.iscc.specs.Meaning.{Meaning, unit, composite, wide, Permitted}
 use Rattle.iscc.specs.Item.{Item}
 use Rattle.iscc.specs.Items.{compositeFrom}
 use Rattle.iscc.specs.Representation.{mainTypeAs}
@@ -29,10 +29,11 @@ unfoldable pub laid : (ℕ → List ℕ) → ℕ → List ℕ
 laid f zero = []
 laid f (suc n) = laid f n ++ f n
 
--- a composite's meaning by value; a unit has none
+-- a composite's meaning by value; a unit has none, and a wide composite's bodies are too long for it
 unfoldable pub compositeAs : Meaning → Composite
 compositeAs (composite s v units bodies) = parts (setLengthNumber units) s (filledBodies (λ i. getD bodies i []) (unitCount units) 5)
 compositeAs (unit m s v body) = parts 0 0 []
+compositeAs (wide s v da ins) = parts 0 0 []
 
 -- ---- from a list's summary
 

@@ -4,4 +4,5 @@ pub mod code;
 mod gather;
 pub mod join;
 pub mod split;
+mod wide;
 mod writer;

@@ -8,11 +8,13 @@ ghost use Rattle.iscc.specs.Representation.{writtenAs};
 ghost use Rattle.unit.specs.Representation.{oneReadAs};
 ghost use Rattle.unit.specs.declared.reader.UnitRead.the-variants as found;
 use crate::gather;
+use crate::wide;
 use crate::writer;
 use iscc::main_type::MainType;
 use iscc::refusal::Refusal;
 use iscc::written::Written;
 use unit::one;
+use unit::permitted;
 use unit::reader::Unit;
 use unit::reader::UnitRead;
 
@@ -24,6 +26,9 @@ fn split_item(bytes: &[u8], u: Unit, out: &mut [u8]) -> Written
 {
     if !u.main_type.is(MainType::ISCC) {
         return Written::Refused(Refusal::NOT_PERMITTED);
+    }
+    if permitted::is_wide(u.subtype, u.length_number) {
+        return wide::write_units(bytes, out);
     }
     let c = gather::from_code(bytes, u.subtype, u.length_number as usize);
     writer::write_units(c, out)

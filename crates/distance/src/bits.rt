@@ -6,7 +6,7 @@ ghost use lib.ListN.{length};
 ghost use Rattle.iscc.specs.Digits.{value};
 ghost use Rattle.iscc.specs.Distance.{differingBits, comparedBits};
 
-fn wide(x: u8) -> u64
+fn widen(x: u8) -> u64
     ensures { λ r. ⌜ (r ≡ x) × (r < 256) ⌝ }
 {
     x as u64
@@ -17,7 +17,7 @@ fn half(bytes: &[u8]) -> u64
     requires { ⌜ length (now bytes) ≡ 4 ⌝ }
     ensures { λ r. ⌜ (r ≡ value 8 (reverse (now (bytes .entry)))) × (r < 2 ^ 32) ⌝ }
 {
-    wide(bytes[0]) + wide(bytes[1]) * 256 + wide(bytes[2]) * 65536 + wide(bytes[3]) * 16777216
+    widen(bytes[0]) + widen(bytes[1]) * 256 + widen(bytes[2]) * 65536 + widen(bytes[3]) * 16777216
 }
 
 // Eight bytes as a number, the first one lowest: in this order they are one load.
@@ -37,7 +37,7 @@ fn rest(bytes: &[u8]) -> u64
     let mut i = bytes.len();
     while 0 < i {
         i -= 1;
-        number = number * 256 + wide(bytes[i]);
+        number = number * 256 + widen(bytes[i]);
     }
     number
 }

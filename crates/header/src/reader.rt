@@ -31,7 +31,7 @@ struct Number {
 
 const NONE: Number = Number { value: 0, width: 0 };
 
-fn wide(x: u8) -> u32
+fn widen(x: u8) -> u32
     ensures { λ r. ⌜ (r ≡ x) × (r < 256) ⌝ }
 {
     x as u32
@@ -45,7 +45,7 @@ fn nibble(bytes: &[u8], at: usize) -> u32
     if bytes.len() <= i {
         return 0;
     }
-    let b = wide(bytes[i]);
+    let b = widen(bytes[i]);
     if at % 2 == 0 {
         return b / 16;
     }
@@ -176,8 +176,8 @@ fn is_short(a: u8, b: u8) -> bool
 fn short(a: u8, b: u8) -> RawHeader
     ensures { λ r. ⌜ r ≡ shortHeader a b ⌝ }
 {
-    let first = wide(a);
-    let second = wide(b);
+    let first = widen(a);
+    let second = widen(b);
     RawHeader {
         header: Header {
             main_type: first / 16,

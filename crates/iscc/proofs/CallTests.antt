@@ -1,7 +1,7 @@
 -- Each call answers as its tests say, in the order of RefusalOrder.antt.
 use Prim.Native.Nat.{ℕ, _%_, _^_}
 use mathlib.Core.Path.{_≡_, refl, sym, subst}
-use mathlib.Core.Bool.{true, false, _&&_}
+use mathlib.Core.Bool.{Bool, true, false, cond, _&&_}
 use mathlib.Core.List.{List, [], _∷_, map}
 use lib.ListN.{length}
 use lib.Dec.{eqb, leb, ltb}
@@ -13,8 +13,8 @@ use Rattle.iscc.specs.Alphabet.{Alphabet, isDigit, digitIn, encode, deco
 use Rattle.iscc.specs.Base32.{base32, readBase32, writeBase32}
 use Rattle.iscc.specs.Varnibble.{varnibble, writeVarnibble}
 use Rattle.iscc.specs.Header.{Header, headerBytes, rawHeader, writeHeader}
-use Rattle.iscc.specs.Permitted.{MainType, META, SEMANTIC, CONTENT, DATA, INSTANCE, ISCC, ID, typeOf, mainTypeOf, isUnit, permits, bodyBytes}
-use Rattle.iscc.specs.Item.{itemBytes, itemOf, compositeOf, meaningAs, meaningOf, readOne, unitBytes, writeUnit}
+use Rattle.iscc.specs.Permitted.{MainType, META, SEMANTIC, CONTENT, DATA, INSTANCE, ISCC, ID, typeOf, mainTypeOf, isUnit, setOf, isWide, permits, bodyBytes}
+use Rattle.iscc.specs.Item.{itemBytes, itemOf, compositeOf, wideOf, meaningAs, meaningOf, readOne, unitBytes, writeUnit}
 use Rattle.iscc.specs.Items.{sameType, unitsOf, itemsBytes, readItems, meaningOfItems, joinedMeaning, joinedBytes, join, splitBytes, split}
 use Rattle.iscc.specs.Doors.{cleaned, decodeRun, payload, itemsOfText, meaningOfText, textOf, codeBytes, readCode, writeText, intake, strict}
 use Rattle.iscc.specs.Distance.{comparable, distance}
@@ -135,13 +135,17 @@ join-by bs area k = into-by (joinedBytes bs) area _ (all-by bs k)
 
 not-composite : (m : MainType) (s v l : ℕ) (body : List ℕ)
     → By (once notPermitted (sameType m ISCC) ∷ []) (unitsOf (meaningAs m s v l body) >>= λ is. accept (itemsBytes is))
-unfolding meaningAs unitsOf compositeOf
+unfolding meaningAs unitsOf compositeOf wideOf
 not-composite META s v l body = step-once false notPermitted (accept []) [] (done [])
 not-composite SEMANTIC s v l body = step-once false notPermitted (accept []) [] (done [])
 not-composite CONTENT s v l body = step-once false notPermitted (accept []) [] (done [])
 not-composite DATA s v l body = step-once false notPermitted (accept []) [] (done [])
 not-composite INSTANCE s v l body = step-once false notPermitted (accept []) [] (done [])
-not-composite ISCC s v l body = step-once true notPermitted _ [] (done _)
+not-composite ISCC s v l body = go (isWide s l)
+  where
+    go : (b : Bool) → By (once notPermitted true ∷ []) (unitsOf (cond b (wideOf s v body) (compositeOf s v (setOf l) body)) >>= λ is. accept (itemsBytes is))
+    go true = step-once true notPermitted _ [] (done _)
+    go false = step-once true notPermitted _ [] (done _)
 not-composite ID s v l body = step-once false notPermitted (accept []) [] (done [])
 
 pub split-by : (bs : List ℕ) (area : ℕ) → By (splitStages bs area) (split bs area)

@@ -2,7 +2,7 @@
 use Prim.Native.Nat.{ℕ, _≤_}
 use mathlib.Core.Path.{_≡_, refl, sym, _∙_, ap, subst}
 use mathlib.Core.Logic.{_⊎_, inl, inr}
-use mathlib.Core.Bool.{true}
+use mathlib.Core.Bool.{true, cond}
 use mathlib.Core.List.{List, _∷_, _++_, map}
 use native.Mathlib.Omega.{arith}
 use lib.ListN.{length, drop, length-append, length-drop}
@@ -11,30 +11,31 @@ use lib.Dec.{leb, lit≤}
 use lib.IntN.{pos}
 use lib.Ieee.{binary32, ofInt, mul, eq}
 use borrow.Author.Tests.{leb-true}
-use Rattle.iscc.specs.Refusals.{Refusal, areaTooShort}
+use Rattle.iscc.specs.Refusals.{Refusal, not64Bits, areaTooShort}
 use Rattle.iscc.specs.Answer.{Answer, accept, refuse, _>>=_, _>>_, _otherwise_, into, Kept}
 use Rattle.iscc.specs.Digits.{Below}
 use Rattle.iscc.specs.Alphabet.{encode, decode}
 use Rattle.iscc.specs.Base32.{base32}
 use Rattle.iscc.specs.Header.{Header, rawHeader}
 use Rattle.iscc.specs.Lists.{All}
-use Rattle.iscc.specs.Permitted.{Set}
-use Rattle.iscc.specs.Meaning.{Meaning, unit, composite, Permitted}
+use Rattle.iscc.specs.Permitted.{Set, setLengthNumber, isWide}
+use Rattle.iscc.specs.Meaning.{Meaning, unit, composite, wide, Permitted}
 use Rattle.iscc.specs.Item.{Item, itemBytes, readItem, readOne, unitBytes, meaningOf, itemOf}
-use Rattle.iscc.specs.Items.{readItems, itemsBytes, unitsOf, joinedBytes, splitBytes}
+use Rattle.iscc.specs.Items.{itemsBytes, unitsOf, joinedBytes, splitBytes}
 use Rattle.iscc.specs.Doors.{meaningOfText, textOf, codeBytes, readCode, writeText, intake}
 use Rattle.iscc.specs.Distance.{Distance, bitsOf, comparedBits, distance, ratioOf}
-use Rattle.iscc.specs.Demands.{Demand1, Demand2, UnitBack, SplitBack}
+use Rattle.iscc.specs.Demands.{Demand1, Demand2, UnitBack, SplitBack, WideSplitBack}
 use Rattle.iscc.proofs.Answer.{never, accept-inj, passed, answered, accepted-value}
 use Rattle.iscc.proofs.ByteDigits.{from-to}
 use Rattle.iscc.proofs.Alphabet.{decode-encode, encode-decode}
 use Rattle.iscc.proofs.Base32.{sound32, bad-count}
 use Rattle.iscc.proofs.Varnibble.{length-varnibble, read-varnibble, varnibble-read}
 use Rattle.iscc.proofs.Header.{read-header, header-read}
+use Rattle.iscc.proofs.Permitted.{not-wide}
 use Rattle.iscc.proofs.Item.{PermittedItem, UnitWritten, read-item, item-read, unit-written, item-most}
 use Rattle.iscc.proofs.Meaning.{meaning-back, item-permitted, meant-item, item-back}
 use Rattle.iscc.proofs.Items.{AllPermitted, read-items, items-read}
-use Rattle.iscc.proofs.Split.{units, units-types, units-subtypes, units-bodies, split-parts, split-read, split-joined, one-read, join-makes}
+use Rattle.iscc.proofs.Split.{units, units-types, units-subtypes, units-bodies, split-parts, split-read, split-joined, wide-item, wide-parts, wide-read, wide-joined, one-read, join-makes}
 use Rattle.iscc.proofs.Lists.{all-imp, all-map}
 use Rattle.iscc.proofs.Distance.{bounded, compared-shorter, shorter-bits, exact-power}
 use Rattle.iscc.proofs.Doors.{meant, short}
@@ -157,20 +158,30 @@ split-order s v u bodies p =
       bodiesIn = units-bodies s v u bodies p;
     }
 
+wide-split-order : (s v : ℕ) (da ins : List ℕ) → Permitted (wide s v da ins) → WideSplitBack s v da ins
+wide-split-order s v da ins p = record { bytes = wide-parts s v da ins p; read = wide-read s v da ins p }
+
+-- what a composite's units make when they are joined: the composite again, or 11
+abbrev joinedAgain : Item → Answer (List ℕ)
+joinedAgain i = cond (isWide (i .subtype) (i .lengthNumber)) (refuse not64Bits) (accept (itemBytes i))
+
+rejoined : (m : Meaning) → Permitted m → (is : List Item) → unitsOf m ≡ accept is → joinedBytes (itemsBytes is) ≡ joinedAgain (itemOf m)
+unfolding unitsOf itemOf
+rejoined (unit m s v body) p is u = absurd (never u)
+rejoined (composite s v set bodies) p is u =
+    ap joinedBytes (ap itemsBytes (sym (accept-inj u))) ∙ split-joined s v set bodies p ∙ rw (not-wide s (setLengthNumber set) (p .subtype))
+rejoined (wide s v da ins) p is u =
+    ap joinedBytes (ap itemsBytes (sym (accept-inj u))) ∙ wide-joined s v da ins p ∙ rw (wide-item s v da ins p)
+
 -- what split writes is the units of a permitted composite, whose bytes were read
-split-join : (bs out : List ℕ) → Below 256 bs → splitBytes bs ≡ accept out → joinedBytes out ≡ accept bs
-unfolding splitBytes unitsOf
-split-join bs out k e =
-    let a = answered (readOne bs) _ e in
-    let o = one-read bs (a .0) k (a .1) in
-    let b = answered (unitsOf (meaningOf (a .0))) (λ is. accept (itemsBytes is)) (a .2) in
-    go (meaningOf (a .0)) (meant-item (a .0) (o .0)) (ap itemBytes (item-back (a .0) (o .0)) ∙ o .1) (b .0) (b .1) (accept-inj (b .2))
-  where
-    go : (m : Meaning) → Permitted m → itemBytes (itemOf m) ≡ bs → (is : List Item) → unitsOf m ≡ accept is → itemsBytes is ≡ out → joinedBytes out ≡ accept bs
-    go (unit m s v body) p w is u q = absurd (never u)
-    go (composite s v set bodies) p w is u q =
-        let y : itemsBytes (units s v set bodies p) ≡ out = ap itemsBytes (accept-inj u) ∙ q in
-        ap joinedBytes (sym y) ∙ split-joined s v set bodies p ∙ ap accept w
+split-join : (bs out : List ℕ) (i : Item) → Below 256 bs → readOne bs ≡ accept i → splitBytes bs ≡ accept out
+    → joinedBytes out ≡ cond (isWide (i .subtype) (i .lengthNumber)) (refuse not64Bits) (accept bs)
+unfolding splitBytes
+split-join bs out i k r e =
+    let o = one-read bs i k r in
+    let b = answered (unitsOf (meaningOf i)) (λ is. accept (itemsBytes is)) (rw r at e) in
+    ap joinedBytes (sym (accept-inj (b .2))) ∙ rejoined (meaningOf i) (meant-item i (o .0)) (b .0) (b .1)
+    ∙ ap joinedAgain (item-back i (o .0)) ∙ ap (λ (cs : List ℕ). cond (isWide (i .subtype) (i .lengthNumber)) (refuse not64Bits) (accept cs)) (o .1)
 
 shorter : (x y : List ℕ) (i j : Item) (r : Distance) → readOne x ≡ accept i → readOne y ≡ accept j → distance x y ≡ accept r
     → (length (i .body) ≤ length (j .body) → r .n ≡ length (bitsOf (i .body))) × (length (j .body) ≤ length (i .body) → r .n ≡ length (bitsOf (j .body)))
@@ -208,6 +219,7 @@ demand2 =
             ap (drop (length (itemBytes (itemOf m)))) (laid-rest m ms) ∙ drop-append-seam (itemBytes (itemOf m)) (itemsBytes (map itemOf ms)),
           );
       splitOrder = split-order;
+      wideSplitOrder = wide-split-order;
       splitJoin = split-join;
       digitsBack = λ v p m bs b. from-to v p m bs b;
       distanceShorter = shorter;

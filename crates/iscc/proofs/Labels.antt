@@ -7,8 +7,8 @@ use Rattle.iscc.specs.Alphabet.{upper, indexOf, charIn, digitIn, encode,
 use Rattle.iscc.specs.Base32.{base32}
 use Rattle.iscc.specs.Varnibble.{firstOf, prefixOf, rowOf, rowBy, varnibble, writeVarnibble, readVarnibble}
 use Rattle.iscc.specs.Header.{nibbles, packed, headerBytes, rawHeader, readHeader}
-use Rattle.iscc.specs.Permitted.{typeOf, mainTypeOf, sets, setOf, unitTypes, compositeSubtype, row, bodyBytes}
-use Rattle.iscc.specs.Item.{itemBytes, readItem, readOne, unitBytes, compositeOf, meaningAs, unitLengthNumber, itemOf}
+use Rattle.iscc.specs.Permitted.{typeOf, mainTypeOf, sets, setOf, unitTypes, compositeSubtype, isWide, row, bodyBytes}
+use Rattle.iscc.specs.Item.{itemBytes, readItem, readOne, unitBytes, compositeOf, wideOf, meaningAs, unitLengthNumber, itemOf}
 use Rattle.iscc.specs.Items.{readUpTo, readItems, bodyIn, subtypeIn, subtypeOf, compositeFrom, meaningOfItems}
 use Rattle.iscc.specs.Doors.{isBlank, trimStart, trimEnd, scheme, schemeLength, dropHyphens, trimmed, behindScheme, cleaned, decodeRun, payload, itemsOfText, meaningOfText, textOf, intake}
 use Rattle.iscc.specs.Distance.{bitsOf, differingPositions, ratioOf, differingBits, comparedBits, comparable, distance}
@@ -17,7 +17,7 @@ use Rattle.iscc.specs.Labels.{ProvedLabels, RunLabels, PinnedDefinitions
 use lib.Ieee.{ofInt, div}
 
 pub proved-labels : ProvedLabels
-unfolding digits value allBelow digitCount toDigits byteCount spareCount fromDigits upper indexOf charIn digitIn encode decode base32 firstOf prefixOf rowOf rowBy varnibble writeVarnibble readVarnibble nibbles packed headerBytes rawHeader readHeader typeOf mainTypeOf sets setOf unitTypes compositeSubtype row bodyBytes itemBytes readItem readOne cut compositeOf meaningAs unitLengthNumber flatten itemOf readUpTo readItems every pairwise bodyIn subtypeIn subtypeOf compositeFrom meaningOfItems isBlank trimStart trimEnd sameBytes scheme schemeLength dropHyphens trimmed behindScheme cleaned decodeRun payload itemsOfText meaningOfText textOf intake bitsOf differingPositions ratioOf differingBits comparedBits comparable distance ofInt div
+unfolding digits value allBelow digitCount toDigits byteCount spareCount fromDigits upper indexOf charIn digitIn encode decode base32 firstOf prefixOf rowOf rowBy varnibble writeVarnibble readVarnibble nibbles packed headerBytes rawHeader readHeader typeOf mainTypeOf sets setOf unitTypes compositeSubtype isWide row bodyBytes itemBytes readItem readOne cut compositeOf wideOf meaningAs unitLengthNumber flatten itemOf readUpTo readItems every pairwise bodyIn subtypeIn subtypeOf compositeFrom meaningOfItems isBlank trimStart trimEnd sameBytes scheme schemeLength dropHyphens trimmed behindScheme cleaned decodeRun payload itemsOfText meaningOfText textOf intake bitsOf differingPositions ratioOf differingBits comparedBits comparable distance ofInt div
 proved-labels =
     record {
       number7 = refl;
@@ -39,7 +39,7 @@ proved-labels =
     }
 
 pub run-labels : RunLabels
-unfolding digits value allBelow digitCount toDigits byteCount spareCount fromDigits upper indexOf charIn digitIn encode decode base32 firstOf prefixOf rowOf rowBy varnibble readVarnibble nibbles packed headerBytes readHeader typeOf mainTypeOf sets setOf unitTypes compositeSubtype row bodyBytes itemBytes readItem cut compositeOf meaningAs unitLengthNumber flatten itemOf readUpTo readItems every pairwise bodyIn subtypeIn subtypeOf compositeFrom meaningOfItems isBlank trimStart trimEnd sameBytes scheme schemeLength dropHyphens trimmed behindScheme cleaned decodeRun payload itemsOfText meaningOfText textOf intake linesOf decimal refusedWord lineAnswer lineAnswers lineProgram
+unfolding digits value allBelow digitCount toDigits byteCount spareCount fromDigits upper indexOf charIn digitIn encode decode base32 firstOf prefixOf rowOf rowBy varnibble readVarnibble nibbles packed headerBytes readHeader typeOf mainTypeOf sets setOf unitTypes compositeSubtype isWide row bodyBytes itemBytes readItem cut compositeOf wideOf meaningAs unitLengthNumber flatten itemOf readUpTo readItems every pairwise bodyIn subtypeIn subtypeOf compositeFrom meaningOfItems isBlank trimStart trimEnd sameBytes scheme schemeLength dropHyphens trimmed behindScheme cleaned decodeRun payload itemsOfText meaningOfText textOf intake linesOf decimal refusedWord lineAnswer lineAnswers lineProgram
 run-labels =
     record {
       noColon = refl;
@@ -49,10 +49,13 @@ run-labels =
       aa = refl;
       withId = refl;
       header5700 = refl;
+      header5701 = refl;
+      wideText = refl;
       schemeAlone = refl;
       hyphenAlone = refl;
       threeSpaces = refl;
       sizes = refl;
+      wideSize = refl;
       characters = refl;
       lineCase = refl;
     }

@@ -33,6 +33,7 @@ pub mod ItemTests
 pub mod ListTests
 pub mod CallTests
 pub mod Demands
+pub mod WideComposites
 pub mod Representation
 pub mod Labels
 pub mod Values

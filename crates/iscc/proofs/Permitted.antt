@@ -1,19 +1,20 @@
 -- The laws of permitted headers, and of the eight sets.
-use Prim.Native.Nat.{ℕ, _+_, _/_, _%_, _≤_, _<_}
+use Prim.Native.Nat.{ℕ, _+_, _*_, _/_, _%_, _≤_, _<_}
 use mathlib.Core.Path.{_≡_, refl, sym, _∙_, ap}
 use mathlib.Core.Bool.{Bool, true, false, cond, not, _&&_, _||_}
+use mathlib.Core.Logic.{_⊎_, inl, inr}
 use mathlib.Core.List.{List, _++_}
 use native.Mathlib.Omega.{arith}
 use lib.ListN.{length, List·getD-eq-default}
 use lib.Dec.{eqb, leb, ltb, lit≤}
-use borrow.Author.Tests.{eqb-true, leb-true, ltb-true, lt-ltb, le-leb, eq-eqb}
+use borrow.Author.Tests.{eqb-true, leb-true, ltb-true, lt-ltb, le-leb, eq-eqb, ne-eqb}
 use Rattle.iscc.specs.Answer.{accept}
 use Rattle.iscc.specs.Lists.{All, every, pairwise}
-use Rattle.iscc.specs.Permitted.{MainType, META, SEMANTIC, CONTENT, DATA, INSTANCE, ISCC, ID, number, isUnit, typeOf, mainTypeOf, Set, sets, setOf, setLengthNumber, weight, unitCount, only, unitTypes, compositeSubtype, row, permits, bodyBytes}
+use Rattle.iscc.specs.Permitted.{MainType, META, SEMANTIC, CONTENT, DATA, INSTANCE, ISCC, ID, number, isUnit, typeOf, mainTypeOf, Set, sets, setOf, setLengthNumber, weight, unitCount, only, unitTypes, compositeSubtype, isWide, row, permits, bodyBytes}
 use Rattle.iscc.specs.Item.{unitLengthNumber}
 use Rattle.iscc.specs.Items.{sameType}
 use Rattle.iscc.proofs.Answer.{accept-inj, passed}
-use Rattle.iscc.proofs.Booleans.{both-true}
+use Rattle.iscc.proofs.Booleans.{both-true, or-cases}
 use Rattle.iscc.proofs.Table.{upTo, at}
 use Rattle.iscc.proofs.Lists.{all-append}
 
@@ -89,6 +90,15 @@ most-small n k h e = omega (arith, leb-true n k e)
 both-small : {s l : ℕ} {p q : Bool} → (p ≡ true → s ≤ 7) → (q ≡ true → l ≤ 7) → p && q ≡ true → (s ≤ 7) × (l ≤ 7)
 both-small {s} {l} {p} {q} f g e = let w = both-true p q e in (f (w .0), g (w .1))
 
+-- a wide composite's numbers
+pub wide-numbers : (s l : ℕ) → isWide s l ≡ true → (s ≡ 7) × (l ≡ 0)
+unfolding isWide
+wide-numbers s l e = let p = both-true (eqb s 7) (eqb l 0) e in (eqb-true s 7 (p .0), eqb-true l 0 (p .1))
+
+composite-small : (s l : ℕ) → (isWide s l ≡ true) ⊎ (compositeSubtype l s && leb l 7 ≡ true) → (s ≤ 7) × (l ≤ 7)
+composite-small s l (inl w) = let p = wide-numbers s l w in (omega (arith, p .0), omega (arith, p .1))
+composite-small s l (inr e) = both-small (λ (a : compositeSubtype l s ≡ true). omega (arith, subtype-small l s a)) (most-small l 7 (lit≤ tt)) e
+
 row-small : (m : MainType) (s l : ℕ) → row m s l ≡ true → (s ≤ 7) × (l ≤ 7)
 unfolding row
 row-small META s l = both-small (is-small s 0 (lit≤ tt)) (most-small l 7 (lit≤ tt))
@@ -96,7 +106,7 @@ row-small SEMANTIC s l = both-small (most-small s 4 (lit≤ tt)) (most-small l 7
 row-small CONTENT s l = both-small (most-small s 4 (lit≤ tt)) (most-small l 7 (lit≤ tt))
 row-small DATA s l = both-small (is-small s 0 (lit≤ tt)) (most-small l 7 (lit≤ tt))
 row-small INSTANCE s l = both-small (is-small s 0 (lit≤ tt)) (most-small l 7 (lit≤ tt))
-row-small ISCC s l = both-small (λ (a : compositeSubtype l s ≡ true). omega (arith, subtype-small l s a)) (most-small l 7 (lit≤ tt))
+row-small ISCC s l = λ e. composite-small s l (or-cases (isWide s l) (compositeSubtype l s && leb l 7) e)
 row-small ID s l = both-small (most-small s 5 (lit≤ tt)) (most-small l 4 (lit≤ tt))
 
 pub small : (m : MainType) (s v l : ℕ) → permits m s v l ≡ true → Small s v l
@@ -152,6 +162,10 @@ count-most s =
     let c : weight 1 (s .content) ≤ 1 = weight-one (s .content) in
     omega arith
 
+cond-most : (b : Bool) (x y : ℕ) → x ≤ 40 → y ≤ 40 → cond b x y ≤ 40
+cond-most true x y h k = h
+cond-most false x y h k = k
+
 -- a body is of at most 40 bytes
 pub body-most : (m : MainType) (s v l : ℕ) → permits m s v l ≡ true → bodyBytes m s l ≤ 40
 unfolding bodyBytes
@@ -160,8 +174,13 @@ body-most SEMANTIC s v l p = let h : Small s v l = small SEMANTIC s v l p in ome
 body-most CONTENT s v l p = let h : Small s v l = small CONTENT s v l p in omega arith
 body-most DATA s v l p = let h : Small s v l = small DATA s v l p in omega arith
 body-most INSTANCE s v l p = let h : Small s v l = small INSTANCE s v l p in omega arith
-body-most ISCC s v l p = let h : unitCount (setOf l) ≤ 5 = count-most (setOf l) in omega arith
+body-most ISCC s v l p = cond-most (isWide s l) 32 (unitCount (setOf l) * 8) (lit≤ tt) (omega (arith, count-most (setOf l)))
 body-most ID s v l p = let h : Small s v l = small ID s v l p in omega arith
+
+-- a subtype that the rules allow for a set is not a wide composite's
+pub not-wide : (s l : ℕ) → compositeSubtype l s ≡ true → isWide s l ≡ false
+unfolding isWide
+not-wide s l e = rw (ne-eqb s 7 (λ z. omega (arith, subtype-small l s e)))
 
 pub set-small : (u : Set) → setLengthNumber u ≤ 7
 unfolding setOf sets
@@ -170,11 +189,11 @@ set-small = each-set _ (lit≤ tt) (lit≤ tt) (lit≤ tt) (lit≤ tt) (lit≤ t
 -- the table's row of a composite, by its set
 pub composite-permits : (s v : ℕ) (u : Set) → v ≡ 0 → compositeSubtype (setLengthNumber u) s ≡ true → permits ISCC s v (setLengthNumber u) ≡ true
 unfolding row
-composite-permits s v u z e = rw (eq-eqb v 0 z, e) (le-leb _ 7 (set-small u))
+composite-permits s v u z e = rw (eq-eqb v 0 z, not-wide s (setLengthNumber u) e, e) (le-leb _ 7 (set-small u))
 
-pub permits-composite : (s v l : ℕ) → permits ISCC s v l ≡ true → compositeSubtype l s ≡ true
+pub permits-composite : (s v l : ℕ) → permits ISCC s v l ≡ true → isWide s l ≡ false → compositeSubtype l s ≡ true
 unfolding row
-permits-composite s v l e = both-true (compositeSubtype l s) (leb l 7) (both-true (eqb v 0) (row ISCC s l) e .1) .0
+permits-composite s v l e w = both-true (compositeSubtype l s) (leb l 7) (rw w at (both-true (eqb v 0) (row ISCC s l) e .1)) .0
 
 -- the subtype by the set: 5 with neither SEMANTIC nor CONTENT, 6 with META alone, and else 0 to 4
 pub subtype-by-set : (s : ℕ) (u : Set) → compositeSubtype (setLengthNumber u) s ≡ cond (u .semantic || u .content) (leb s 4) (eqb s (cond (u .meta) 6 5))

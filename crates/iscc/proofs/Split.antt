@@ -11,13 +11,13 @@ use lib.Seq.{take-all}
 use lib.Dec.{eqb, leb}
 use borrow.Author.Tests.{le-leb, leb-true, eq-eqb, not-true}
 use Rattle.iscc.specs.Answer.{accept, refuse}
-use Rattle.iscc.specs.Refusals.{lacksDataOrInstance}
+use Rattle.iscc.specs.Refusals.{not64Bits, lacksDataOrInstance}
 use Rattle.iscc.specs.Digits.{Below}
 use Rattle.iscc.specs.Lists.{All, every, pairwise}
-use Rattle.iscc.specs.Permitted.{MainType, META, SEMANTIC, CONTENT, DATA, INSTANCE, number, Set, unitTypes, unitCount, row, bodyBytes}
-use Rattle.iscc.specs.Meaning.{Meaning, composite, Sized, Permitted}
+use Rattle.iscc.specs.Permitted.{MainType, META, SEMANTIC, CONTENT, DATA, INSTANCE, number, Set, unitTypes, unitCount, isWide, row, bodyBytes}
+use Rattle.iscc.specs.Meaning.{Meaning, composite, wide, Sized, Permitted}
 use Rattle.iscc.specs.Item.{Item, itemBytes, readItem, readOne, itemOf}
-use Rattle.iscc.specs.Items.{readItems, sameType, joinable, is64Bits, otherType, takesSubtype, hasSubtype, sharedSubtype, bodyIn, subtypeIn, isIn, has, setIn, bodiesIn, subtypeOf, compositeFrom, joinedMeaning, joinedBytes, unitWith, unitsOf, itemsBytes, splitBytes}
+use Rattle.iscc.specs.Items.{readItems, sameType, joinable, is64Bits, otherType, takesSubtype, hasSubtype, sharedSubtype, bodyIn, subtypeIn, isIn, has, setIn, bodiesIn, subtypeOf, compositeFrom, joinedMeaning, joinedBytes, unit128, unitWith, unitsOf, itemsBytes, splitBytes}
 use Rattle.iscc.specs.Demands.{JoinBack}
 use Rattle.iscc.proofs.Answer.{passed, answered, accept-inj, never}
 use Rattle.iscc.proofs.Booleans.{both-true}
@@ -202,6 +202,31 @@ module _ (s v : ℕ) (u : Set) (bodies : List (List ℕ)) (p : Permitted (compos
   pub split-joined : joinedBytes (itemsBytes us) ≡ accept (itemBytes (itemOf (composite s v u bodies)))
   unfolding joinedBytes
   split-joined = rw (split-read, joined-two us two-units, units-make s v u bodies p, p .version)
+
+-- A permitted wide composite's bytes: split writes two units of 128 bits, which are read one by one as they went in, and are 11
+-- for join.
+module _ (s v : ℕ) (da ins : List ℕ) (p : Permitted (wide s v da ins)) where
+  abbrev pub twoUnits : List Item
+  twoUnits = unit128 DATA da ∷ unit128 INSTANCE ins ∷ []
+
+  pub wide-item : isWide s 0 ≡ true
+  unfolding isWide
+  wide-item = rw (p .subtype)
+
+  pub wide-parts : splitBytes (itemBytes (itemOf (wide s v da ins))) ≡ accept (itemsBytes twoUnits)
+  unfolding splitBytes unitsOf
+  wide-parts = rw (read-one (itemOf (wide s v da ins)) (item-permitted (wide s v da ins) p), meaning-back (wide s v da ins) p)
+
+  both-permitted : AllPermitted twoUnits
+  unfolding row bodyBytes
+  both-permitted = (record { header = refl; body = p .dataSized }, (record { header = refl; body = p .instanceSized }, tt))
+
+  pub wide-read : readItems (itemsBytes twoUnits) ≡ accept twoUnits
+  wide-read = read-items (unit128 DATA da) (unit128 INSTANCE ins ∷ []) both-permitted
+
+  pub wide-joined : joinedBytes (itemsBytes twoUnits) ≡ refuse not64Bits
+  unfolding joinedBytes joinedMeaning compositeFrom every
+  wide-joined = rw (wide-read, p .dataSized .0)
 
 -- ---- what exactly-one and join accept
 

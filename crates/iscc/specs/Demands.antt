@@ -4,12 +4,12 @@ use Prim.Native.Nat.{ℕ, _%_, _≤_, _<_}
 use mathlib.Core.Path.{_≡_}
 use mathlib.Core.Logic.{_⊎_, _↔_}
 use mathlib.Core.Bool.{true, cond, not, _||_}
-use mathlib.Core.List.{List, _∷_, _++_, map}
+use mathlib.Core.List.{List, [], _∷_, _++_, map}
 use lib.Dec.{eqb, ltb}
 use lib.ListN.{length, take, drop}
 use lib.IntN.{pos}
 use lib.Ieee.{binary32, ofInt, mul, eq}
-use Rattle.iscc.specs.Refusals.{Refusal}
+use Rattle.iscc.specs.Refusals.{Refusal, not64Bits}
 use Rattle.iscc.specs.Answer.{Answer, accept, refuse, Accepted, Kept}
 use Rattle.iscc.specs.Lists.{All, Reordered}
 use Rattle.iscc.specs.Digits.{Below, toDigits, spareCount, fromDigits}
@@ -17,10 +17,10 @@ use Rattle.iscc.specs.Alphabet.{upper, encode, decode}
 use Rattle.iscc.specs.Base32.{base32, readBase32, writeBase32}
 use Rattle.iscc.specs.Varnibble.{Parsed, parsed, varnibble, readVarnibble}
 use Rattle.iscc.specs.Header.{Header, Writable, headerBytes, readHeader, writeHeader}
-use Rattle.iscc.specs.Permitted.{Set, unitTypes}
-use Rattle.iscc.specs.Meaning.{Meaning, composite, Permitted}
+use Rattle.iscc.specs.Permitted.{DATA, INSTANCE, Set, unitTypes, isWide}
+use Rattle.iscc.specs.Meaning.{Meaning, composite, wide, Permitted}
 use Rattle.iscc.specs.Item.{Item, headerOf, itemBytes, readItem, readOne, unitBytes, writeUnit, meaningOf, itemOf}
-use Rattle.iscc.specs.Items.{readItems, itemsBytes, takesSubtype, joinedMeaning, joinedBytes, splitBytes, join, split}
+use Rattle.iscc.specs.Items.{readItems, itemsBytes, takesSubtype, unit128, joinedMeaning, joinedBytes, splitBytes, join, split}
 use Rattle.iscc.specs.Doors.{scheme, itemsOfText, meaningOfText, textOf, readCode, writeText, intake, writtenText, strict}
 use Rattle.iscc.specs.Distance.{Distance, bitsOf, distance, ratioOf}
 use Rattle.iscc.specs.Exactly.{Exactly}
@@ -86,6 +86,11 @@ pub record SplitBack (s v : ℕ) (units : Set) (bodies : List (List ℕ)) : Type
   pub subtypes : map (λ i. i .subtype) items ≡ map (λ m. cond (takesSubtype m) s 0) (unitTypes units)
   pub bodiesIn : map (λ i. i .body) items ≡ bodies
 
+-- A wide composite's: two units of 128 bits, DATA and INSTANCE, that are read one by one.
+pub record WideSplitBack (s v : ℕ) (da ins : List ℕ) : Type 0 where
+  pub bytes : splitBytes (itemBytes (itemOf (wide s v da ins))) ≡ accept (itemsBytes (unit128 DATA da ∷ unit128 INSTANCE ins ∷ []))
+  pub read : readItems (itemsBytes (unit128 DATA da ∷ unit128 INSTANCE ins ∷ [])) ≡ accept (unit128 DATA da ∷ unit128 INSTANCE ins ∷ [])
+
 -- Demand 2. Everything is read and written as ISO 24138 and RFC 4648 define it, within the specification's limits. What is written
 -- reads back; what is read and written again is the same bytes (case of base32 letters apart); units laid end to end are read one
 -- by one as they went in, and split from a composite in its own order.
@@ -109,9 +114,11 @@ pub record Demand2 : Type 1 where
   pub oneByOne : (m : Meaning) (ms : List Meaning) → Permitted m
       → (readItem (itemsBytes (map itemOf (m ∷ ms))) ≡ accept (parsed (itemOf m) (length (itemBytes (itemOf m)))))
       × (drop (length (itemBytes (itemOf m))) (itemsBytes (map itemOf (m ∷ ms))) ≡ itemsBytes (map itemOf ms))
-  -- split from a composite in its own order, and join of what split gives is the composite again
+  -- split from a composite in its own order, and join of what split gives is the composite again, or 11 if it is wide
   pub splitOrder : (s v : ℕ) (units : Set) (bodies : List (List ℕ)) → Permitted (composite s v units bodies) → SplitBack s v units bodies
-  pub splitJoin : (bs out : List ℕ) → Below 256 bs → splitBytes bs ≡ accept out → joinedBytes out ≡ accept bs
+  pub wideSplitOrder : (s v : ℕ) (da ins : List ℕ) → Permitted (wide s v da ins) → WideSplitBack s v da ins
+  pub splitJoin : (bs out : List ℕ) (i : Item) → Below 256 bs → readOne bs ≡ accept i → splitBytes bs ≡ accept out
+      → joinedBytes out ≡ cond (isWide (i .subtype) (i .lengthNumber)) (refuse not64Bits) (accept bs)
   -- digits, once over the bits per digit
   pub digitsBack : (v : ℕ) → 0 < v → v ≤ 8 → (bs : List ℕ) → Below 256 bs → fromDigits v (toDigits v bs) ≡ accept bs
   -- the distance: n is the shorter body's bits

@@ -1,6 +1,6 @@
 -- One item, a unit or a composite, as bytes: a permitted header and then the body.
 use Prim.Native.Nat.{ℕ, _+_, _-_, _/_}
-use mathlib.Core.Bool.{_&&_}
+use mathlib.Core.Bool.{cond, _&&_}
 use mathlib.Core.List.{List, _++_, flatten}
 use lib.ListN.{length, take, drop}
 use lib.Dec.{leb}
@@ -8,9 +8,9 @@ use Rattle.iscc.specs.Answer.{Answer, accept, _>>=_, _>>_, _otherwise_, 
 use Rattle.iscc.specs.Refusals.{notPermitted, shortBody, bytesLeftOver}
 use Rattle.iscc.specs.Varnibble.{Parsed}
 use Rattle.iscc.specs.Header.{Header, headerWithNumbers, headerBytes, readHeader}
-use Rattle.iscc.specs.Permitted.{MainType, META, SEMANTIC, CONTENT, DATA, INSTANCE, ISCC, ID, number, mainTypeOf, isUnit, Set, setOf, setLengthNumber, unitCount, permits, bodyBytes}
+use Rattle.iscc.specs.Permitted.{MainType, META, SEMANTIC, CONTENT, DATA, INSTANCE, ISCC, ID, number, mainTypeOf, isUnit, Set, setOf, setLengthNumber, unitCount, isWide, permits, bodyBytes}
 use Rattle.iscc.specs.Lists.{cut}
-use Rattle.iscc.specs.Meaning.{Meaning, unit, composite}
+use Rattle.iscc.specs.Meaning.{Meaning, unit, composite, wide}
 
 pub record Item : Type 0 where
   pub mainType : MainType
@@ -66,13 +66,17 @@ writeUnit h body area = into area (unitBytes h body)
 unfoldable pub compositeOf : ℕ → ℕ → Set → List ℕ → Meaning
 compositeOf s v units body = composite s v units (cut 8 (unitCount units) body)
 
+-- a wide composite's body holds that of DATA and then that of INSTANCE, sixteen bytes each
+unfoldable pub wideOf : ℕ → ℕ → List ℕ → Meaning
+wideOf s v body = wide s v (take 16 body) (drop 16 body)
+
 unfoldable pub meaningAs : MainType → ℕ → ℕ → ℕ → List ℕ → Meaning
 meaningAs META s v l body = unit META s v body
 meaningAs SEMANTIC s v l body = unit SEMANTIC s v body
 meaningAs CONTENT s v l body = unit CONTENT s v body
 meaningAs DATA s v l body = unit DATA s v body
 meaningAs INSTANCE s v l body = unit INSTANCE s v body
-meaningAs ISCC s v l body = compositeOf s v (setOf l) body
+meaningAs ISCC s v l body = cond (isWide s l) (wideOf s v body) (compositeOf s v (setOf l) body)
 meaningAs ID s v l body = unit ID s v body
 
 abbrev pub meaningOf : Item → Meaning
@@ -95,3 +99,5 @@ itemOf (unit m s v body) =
     record { mainType = m; subtype = s; version = v; lengthNumber = unitLengthNumber m (length body); body = body }
 itemOf (composite s v units bodies) =
     record { mainType = ISCC; subtype = s; version = v; lengthNumber = setLengthNumber units; body = flatten bodies }
+itemOf (wide s v da ins) =
+    record { mainType = ISCC; subtype = s; version = v; lengthNumber = 0; body = da ++ ins }

@@ -9,7 +9,7 @@ use lib.Dec.{eqb, leb}
 use Rattle.iscc.specs.Answer.{Answer, accept, refuse, _>>=_, _>>_, _otherwise_, into}
 use Rattle.iscc.specs.Refusals.{badHeader, notPermitted, notJoinable, not64Bits, mainTypeTwice, lacksDataOrInstance, subtypesDiffer}
 use Rattle.iscc.specs.Permitted.{MainType, META, SEMANTIC, CONTENT, DATA, INSTANCE, ISCC, ID, number, Set, unitTypes}
-use Rattle.iscc.specs.Meaning.{Meaning, unit, composite}
+use Rattle.iscc.specs.Meaning.{Meaning, unit, composite, wide}
 use Rattle.iscc.specs.Item.{Item, itemBytes, itemOf, readItem, readOne, meaningOf}
 
 -- ---- reading a list: 7, 8, 9 for each item from the left, all of one item before the next. No bytes are 7.
@@ -127,6 +127,10 @@ join bs area = into area (joinedBytes bs)
 abbrev pub unit64 : MainType → ℕ → List ℕ → Item
 unit64 m s body = record { mainType = m; subtype = s; version = 0; lengthNumber = 1; body = body }
 
+-- and one of 128, as a wide composite has
+abbrev pub unit128 : MainType → List ℕ → Item
+unit128 m body = record { mainType = m; subtype = 0; version = 0; lengthNumber = 3; body = body }
+
 -- SEMANTIC and CONTENT take the composite's subtype, and the others 0
 abbrev pub unitWith : ℕ → MainType → List ℕ → Item
 unitWith s m body = unit64 m (cond (takesSubtype m) s 0) body
@@ -134,6 +138,7 @@ unitWith s m body = unit64 m (cond (takesSubtype m) s 0) body
 unfoldable pub unitsOf : Meaning → Answer (List Item)
 unitsOf (unit m s v body) = refuse notPermitted
 unitsOf (composite s v units bodies) = accept (zipWith (unitWith s) (unitTypes units) bodies)
+unitsOf (wide s v da ins) = accept (unit128 DATA da ∷ unit128 INSTANCE ins ∷ [])
 
 unfoldable pub itemsBytes : List Item → List ℕ
 itemsBytes [] = []

@@ -48,11 +48,14 @@ pub record RunLabels : Type 0 where
   pub a1 : intake (ascii "A1") 73 ≡ refuse (refusal 4)
   pub aa : intake (ascii "AA") 73 ≡ refuse (refusal 7)
   pub withId : intake (ascii "GAAW2PRCRS5LNVZV-MAAGZTFQTTVIZPJR") 73 ≡ refuse (refusal 10)
-  pub header5700 : readItem (0x57 ∷ 0x00 ∷ []) ≡ refuse (refusal 8)
+  pub header5700 : readItem (0x57 ∷ 0x00 ∷ []) ≡ refuse (refusal 9)
+  pub header5701 : readItem (0x57 ∷ 0x01 ∷ []) ≡ refuse (refusal 8)
+  pub wideText : intake (ascii "iscc:k4aaaaicamcakbqhbaequcymbuha-6earcijrifiwc4mbsgq3dqor4hy") 73 ≡ accept (ascii "ISCC:K4AAAAICAMCAKBQHBAEQUCYMBUHA6EARCIJRIFIWC4MBSGQ3DQOR4HY")
   pub schemeAlone : intake (ascii "ISCC:") 73 ≡ refuse (refusal 1)
   pub hyphenAlone : intake (ascii "-") 73 ≡ refuse (refusal 1)
   pub threeSpaces : intake (ascii "   ") 73 ≡ refuse (refusal 1)
   pub sizes : map (λ l. (2 + bodyBytes ISCC 0 l)) (0 ∷ 1 ∷ 3 ∷ 7 ∷ []) ≡ 18 ∷ 26 ∷ 34 ∷ 42 ∷ []
+  pub wideSize : 2 + bodyBytes ISCC 7 0 ≡ 34
   pub characters : map (digitCount 5) (18 ∷ 26 ∷ 34 ∷ 42 ∷ []) ≡ 29 ∷ 42 ∷ 55 ∷ 68 ∷ []
   pub lineCase : lineProgram (ascii "GAAW2PRCRS5LNVZV-IAAUVACQKXE3V44W\niscc:maagztfqttvizpjr\n\nIscc:Maagztfqttvizpjr\n")
       ≡ ascii "ISCC:KUAG2PRCRS5LNVZVJKAFAVOJXLZZM\nISCC:MAAGZTFQTTVIZPJR\nrefused 1\nISCC:MAAGZTFQTTVIZPJR\n"

@@ -21,5 +21,6 @@ pub mod Exactly
 pub mod RefusalOrder
 pub mod Codes
 pub mod Demands
+pub mod WideComposites
 pub mod Representation
 pub mod Labels

@@ -1,6 +1,6 @@
 -- The specification, "Permitted headers and body lengths".
 use Prim.Native.Nat.{ℕ, _+_, _*_}
-use mathlib.Core.Bool.{Bool, true, false, cond, _&&_}
+use mathlib.Core.Bool.{Bool, true, false, cond, _&&_, _||_}
 use mathlib.Core.List.{List, [], _∷_, _++_}
 use lib.ListN.{getD}
 use lib.Dec.{eqb, leb, ltb}
@@ -90,6 +90,10 @@ unitTypes s = only (s .meta) META ++ only (s .semantic) SEMANTIC ++ only (s .con
 unfoldable pub compositeSubtype : ℕ → ℕ → Bool
 compositeSubtype l s = cond (eqb l 0) (eqb s 5) (cond (eqb l 4) (eqb s 6) (leb s 4))
 
+-- a wide composite has subtype 7 and length 0: DATA and INSTANCE alone, with 128 bits each
+unfoldable pub isWide : ℕ → ℕ → Bool
+isWide s l = eqb s 7 && eqb l 0
+
 -- the table's rows: main type, subtype, length number
 unfoldable pub row : MainType → ℕ → ℕ → Bool
 row META s l = eqb s 0 && leb l 7
@@ -97,19 +101,19 @@ row SEMANTIC s l = leb s 4 && leb l 7
 row CONTENT s l = leb s 4 && leb l 7
 row DATA s l = eqb s 0 && leb l 7
 row INSTANCE s l = eqb s 0 && leb l 7
-row ISCC s l = compositeSubtype l s && leb l 7
+row ISCC s l = isWide s l || (compositeSubtype l s && leb l 7)
 row ID s l = leb s 5 && leb l 4
 
 -- version is always 0
 abbrev pub permits : MainType → ℕ → ℕ → ℕ → Bool
 permits m s v l = eqb v 0 && row m s l
 
--- the body in bytes, by the same columns: (length + 1) x 32 bits; 64 bits a unit; 64 + length x 8 bits
+-- the body in bytes, by the same columns: (length + 1) x 32 bits; 64 bits a unit, or 128 if it is wide; 64 + length x 8 bits
 unfoldable pub bodyBytes : MainType → ℕ → ℕ → ℕ
 bodyBytes META s l = (l + 1) * 4
 bodyBytes SEMANTIC s l = (l + 1) * 4
 bodyBytes CONTENT s l = (l + 1) * 4
 bodyBytes DATA s l = (l + 1) * 4
 bodyBytes INSTANCE s l = (l + 1) * 4
-bodyBytes ISCC s l = unitCount (setOf l) * 8
+bodyBytes ISCC s l = cond (isWide s l) 32 (unitCount (setOf l) * 8)
 bodyBytes ID s l = 8 + l

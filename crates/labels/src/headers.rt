@@ -32,7 +32,7 @@ fn write(main_type: u32, subtype: u32, version: u32, length_number: u32) {
 }
 
 fn numbers_of(h: Header) {
-    say::number(say::wide(h.main_type));
+    say::number(say::widen(h.main_type));
     say::spaced(h.subtype);
     say::spaced(h.version);
     say::spaced(h.length_number);

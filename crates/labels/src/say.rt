@@ -10,18 +10,18 @@ pub fn number(n: u64) {
     io::print_decimal(STDOUT_FILENO, n);
 }
 
-pub fn wide(n: u32) -> u64 {
+pub fn widen(n: u32) -> u64 {
     n as u64
 }
 
 pub fn refused(q: Refusal) {
     text(b"refused ");
-    number(wide(q.number));
+    number(widen(q.number));
 }
 
 pub fn spaced(n: u32) {
     text(b" ");
-    number(wide(n));
+    number(widen(n));
 }
 
 pub fn byte(b: u8) {

@@ -9,7 +9,7 @@ fn number(n: usize) {
 
 fn item(u: Unit) {
     say::text(b"main type ");
-    say::number(say::wide(u.main_type.number()));
+    say::number(say::widen(u.main_type.number()));
     say::text(b", subtype");
     say::spaced(u.subtype);
     say::text(b", version");
@@ -33,11 +33,22 @@ fn read(bytes: &[u8]) {
     }
 }
 
-// A header of two bytes with 48 zeros behind it.
-fn header(first: u8, second: u8) {
+fn name(first: u8, second: u8) {
     say::text(b"unit reader ");
     say::byte(first);
     say::byte(second);
+}
+
+// A header of two bytes with nothing behind it.
+fn alone(first: u8, second: u8) {
+    name(first, second);
+    say::text(b": ");
+    read(&[first, second]);
+}
+
+// A header of two bytes with 48 zeros behind it.
+fn header(first: u8, second: u8) {
+    name(first, second);
     say::text(b", zeros: ");
     let mut bytes = [0u8; 50];
     bytes[0] = first;
@@ -45,8 +56,11 @@ fn header(first: u8, second: u8) {
     read(&bytes);
 }
 
+// A wide composite's header, and subtype 7 with another length.
 pub fn labels() {
+    alone(0x57, 0);
     header(0x57, 0);
+    header(0x57, 1);
 }
 
 // Published by the reference library, its encode_length: 32, 64, 96 bits; the sets of a composite by number; 64, 72, 80 bits of an ID.

@@ -7,8 +7,8 @@ use Rattle.iscc.specs.Alphabet.{upper, indexOf, digitIn, decode}
 use Rattle.iscc.specs.Base32.{base32}
 use Rattle.iscc.specs.Varnibble.{firstOf, prefixOf, rowOf, rowBy, varnibble, readVarnibble}
 use Rattle.iscc.specs.Header.{nibbles, packed, headerBytes, readHeader}
-use Rattle.iscc.specs.Permitted.{typeOf, mainTypeOf, sets, setOf, unitTypes, compositeSubtype, row, bodyBytes}
-use Rattle.iscc.specs.Item.{itemBytes, readItem, readOne, compositeOf, meaningAs, unitLengthNumber, itemOf}
+use Rattle.iscc.specs.Permitted.{typeOf, mainTypeOf, sets, setOf, unitTypes, compositeSubtype, isWide, row, bodyBytes}
+use Rattle.iscc.specs.Item.{itemBytes, readItem, readOne, compositeOf, wideOf, meaningAs, unitLengthNumber, itemOf}
 use Rattle.iscc.specs.Items.{readUpTo, readItems, bodyIn, subtypeIn, subtypeOf, compositeFrom, meaningOfItems}
 use Rattle.iscc.specs.Doors.{isBlank, trimStart, trimEnd, scheme, schemeLength, dropHyphens, trimmed, behindScheme, cleaned, decodeRun, payload, itemsOfText, meaningOfText, codeBytes}
 use Rattle.loans.specs.Loan.{oneCode, find, without}
@@ -22,7 +22,7 @@ use Rattle.loans.specs.Records.{isRecord, changeOf, applyChange}
 use Rattle.loans.specs.Examples.{Examples}
 
 pub examples : Examples
-unfolding digits value allBelow byteCount spareCount fromDigits upper indexOf digitIn decode base32 firstOf prefixOf rowOf rowBy varnibble readVarnibble nibbles packed headerBytes readHeader typeOf mainTypeOf sets setOf unitTypes compositeSubtype row bodyBytes itemBytes readItem readOne cut compositeOf meaningAs unitLengthNumber flatten itemOf readUpTo readItems every pairwise bodyIn subtypeIn subtypeOf compositeFrom meaningOfItems isBlank trimStart trimEnd sameBytes scheme schemeLength dropHyphens trimmed behindScheme cleaned decodeRun payload itemsOfText meaningOfText codeBytes oneCode find without zeros placeBytes placeOf isPlace loansIn put cleared allDistinct changeWith fieldBytes firstSize firstIsWhole firstField recordsUpTo recordsFrom replayAll isRecord changeOf applyChange
+unfolding digits value allBelow byteCount spareCount fromDigits upper indexOf digitIn decode base32 firstOf prefixOf rowOf rowBy varnibble readVarnibble nibbles packed headerBytes readHeader typeOf mainTypeOf sets setOf unitTypes compositeSubtype isWide row bodyBytes itemBytes readItem readOne cut compositeOf wideOf meaningAs unitLengthNumber flatten itemOf readUpTo readItems every pairwise bodyIn subtypeIn subtypeOf compositeFrom meaningOfItems isBlank trimStart trimEnd sameBytes scheme schemeLength dropHyphens trimmed behindScheme cleaned decodeRun payload itemsOfText meaningOfText codeBytes oneCode find without zeros placeBytes placeOf isPlace loansIn put cleared allDistinct changeWith fieldBytes firstSize firstIsWhole firstField recordsUpTo recordsFrom replayAll isRecord changeOf applyChange
 examples =
     record {
       place = refl;
@@ -43,6 +43,9 @@ examples =
       typedApart = refl;
       typedSmall = refl;
       typedAround = refl;
+      wideTyped = refl;
+      widePlace = refl;
+      wideIssued = refl;
       labelWritten = refl;
       cutAt0 = refl;
       cutAt24 = refl;

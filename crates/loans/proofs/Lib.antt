@@ -24,4 +24,5 @@ pub mod Settled
 pub mod ReadBack
 pub mod LiveRun
 pub mod LogPromises
+pub mod WideLoans
 pub mod Examples

@@ -29,6 +29,12 @@ two = 0 ∷ 0 ∷ 1 ∷ 2 ∷ 3 ∷ 5 ∷ []
 abbrev pub label : List ℕ
 label = 0x55 ∷ 0 ∷ 0x6D ∷ 0x3E ∷ 0x22 ∷ 0x8C ∷ 0xBA ∷ 0xB6 ∷ 0xD7 ∷ 0x35 ∷ 0x4A ∷ 0x80 ∷ 0x50 ∷ 0x55 ∷ 0xC9 ∷ 0xBA ∷ 0xF3 ∷ 0x96 ∷ []
 
+-- the wide composite of the specification's example
+abbrev pub wideLabel : List ℕ
+wideLabel =
+    0x57 ∷ 0 ∷ 0 ∷ 1 ∷ 2 ∷ 3 ∷ 4 ∷ 5 ∷ 6 ∷ 7 ∷ 8 ∷ 9 ∷ 10 ∷ 11 ∷ 12 ∷ 13 ∷ 14 ∷ 15
+    ∷ 16 ∷ 17 ∷ 18 ∷ 19 ∷ 20 ∷ 21 ∷ 22 ∷ 23 ∷ 24 ∷ 25 ∷ 26 ∷ 27 ∷ 28 ∷ 29 ∷ 30 ∷ 31 ∷ []
+
 -- "The first label of Labels, issued to borrower 258 and then taken back"
 abbrev pub labelOut : Field
 labelOut = recordOf (issueCode label 258)
@@ -69,6 +75,10 @@ pub record Examples : Type 0 where
   pub typedApart : codeBytes (ascii "GAAW2PRCRS5LNVZV-IAAUVACQKXE3V44W") ≡ accept label
   pub typedSmall : codeBytes (ascii "iscc:kuag2prcrs5lnvzvjkafavojxlzzm") ≡ accept label
   pub typedAround : codeBytes (ascii "iaauvacqkxe3v44w-gaaw2prcrs5lnvzv") ≡ accept label
+  -- a wide composite: typed, in its place, and issued by its record
+  pub wideTyped : codeBytes (ascii "k4aaaaicamcakbqhbaequcymbuha-6earcijrifiwc4mbsgq3dqor4hy") ≡ accept wideLabel
+  pub widePlace : isPlace (34 ∷ wideLabel ++ zeros 9 ++ (0 ∷ 0 ∷ 1 ∷ 2 ∷ [])) ≡ true
+  pub wideIssued : applyRecord (record { tag = 1; body = 0 ∷ 0 ∷ 1 ∷ 2 ∷ wideLabel }) (none ∷ []) ≡ accept (some (loanOf wideLabel 258) ∷ [])
   -- the log of the label, and its cuts: before it, one byte before the first record's end, there, one byte later, and all of it
   pub labelWritten : fieldBytes labelOut ++ fieldBytes labelBack ≡ labelLog
   pub cutAt0 : recordsFrom 0 (take 0 labelLog) ≡ untorn []

@@ -19,4 +19,5 @@ pub mod PendingLog
 pub mod LogOrder
 pub mod Operations
 pub mod LogPromises
+pub mod WideLoans
 pub mod Examples

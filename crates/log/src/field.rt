@@ -5,7 +5,7 @@ ghost use lib.ListN.{length, drop};
 ghost use Rattle.log.specs.WholeSize.{wholeSize};
 use loans::layout::HEAD_LENGTH;
 
-fn wide(x: u8) -> usize
+fn widen(x: u8) -> usize
     ensures { λ r. ⌜ (r ≡ x) × (r < 256) ⌝ }
 {
     x as usize
@@ -20,7 +20,7 @@ pub(crate) fn whole_size(log: &[u8], offset: usize) -> usize
     if rest < HEAD_LENGTH {
         return 0;
     }
-    let size = HEAD_LENGTH + 256 * wide(log[offset + 1]) + wide(log[offset + 2]);
+    let size = HEAD_LENGTH + 256 * widen(log[offset + 1]) + widen(log[offset + 2]);
     if rest < size {
         return 0;
     }

@@ -4,7 +4,7 @@ ghost use Prim.Native.Nat.{_%_, _^_, _<_};
 ghost use lib.ListN.{length};
 ghost use Rattle.iscc.specs.Digits.{digits, value};
 
-fn wide(x: u8) -> u32
+fn widen(x: u8) -> u32
     ensures { λ r. ⌜ (r ≡ x) × (r < 256) ⌝ }
 {
     x as u32
@@ -17,7 +17,7 @@ pub fn read(part: &[u8]) -> u32
     let mut number: u32 = 0;
     let mut i = 0;
     while i < part.len() {
-        number = number % 16777216 * 256 + wide(part[i]);
+        number = number % 16777216 * 256 + widen(part[i]);
         i += 1;
     }
     number

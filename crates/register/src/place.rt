@@ -12,7 +12,7 @@ use loans::layout::BORROWER_OFFSET;
 use loans::layout::CODE_OFFSET;
 use loans::layout::PLACE_LENGTH;
 
-pub(crate) fn wide(x: u8) -> usize
+pub(crate) fn widen(x: u8) -> usize
     ensures { λ r. ⌜ (r ≡ x) × (r < 256) ⌝ }
 {
     x as usize
@@ -39,7 +39,7 @@ pub(crate) fn is_place(place: &[u8]) -> bool
     requires { ⌜ length (now place) ≡ 48 ⌝ }
     ensures { λ r. ⌜ r ≡ isPlace (now (place .entry)) ⌝ }
 {
-    let n = wide(place[0]);
+    let n = widen(place[0]);
     if n == 0 {
         return all_zero(&place[0..PLACE_LENGTH]);
     }

@@ -8,7 +8,7 @@ ghost use Rattle.loans.specs.Place.{placesOf, arePlaces};
 ghost use Rattle.loans.specs.Moves.{pasted, holdsCode, placeOfCode, lowestFree};
 ghost use Rattle.register.specs.Search.{CodeLeft};
 use crate::place;
-use crate::place::wide;
+use crate::place::widen;
 use loans::layout::CODE_OFFSET;
 use loans::layout::PLACE_LENGTH;
 use loans::layout::PLACES;
@@ -37,7 +37,7 @@ fn holds(places: &[u8], i: usize, code: &[u8]) -> bool
     ensures { λ r. ⌜ r ≡ holdsCode (now (code .entry)) (getD (placesOf 256 (now (places .entry))) i none) ⌝ }
 {
     let start = PLACE_LENGTH * i;
-    let n = wide(places[start]);
+    let n = widen(places[start]);
     if n != code.len() {
         return false;
     }
@@ -58,7 +58,7 @@ fn candidate_from(places: &[u8], from: usize, code: &[u8]) -> usize
 {
     let mut i = from;
     while i < PLACES {
-        if wide(places[PLACE_LENGTH * i]) == code.len() {
+        if widen(places[PLACE_LENGTH * i]) == code.len() {
             return i;
         }
         i += 1;

@@ -8,7 +8,7 @@ ghost use Rattle.loans.specs.Place.{placesOf, arePlaces, loansIn};
 ghost use Rattle.loans.specs.Contents.{allDistinct};
 ghost use Rattle.register.specs.Twice.{againIn};
 use crate::keys;
-use crate::place::wide;
+use crate::place::widen;
 use crate::places;
 use loans::layout::CODE_OFFSET;
 use loans::layout::PLACE_LENGTH;
@@ -20,7 +20,7 @@ fn stands_again(places: &[u8], i: usize) -> bool
     ensures { λ r. ⌜ r ≡ againIn (getD (placesOf 256 (now (places .entry))) i none) (drop (i + 1) (placesOf 256 (now (places .entry)))) ⌝ }
 {
     let start = PLACE_LENGTH * i;
-    let n = wide(places[start]);
+    let n = widen(places[start]);
     if n == 0 {
         return false;
     }

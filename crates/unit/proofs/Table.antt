@@ -1,16 +1,16 @@
 -- The table of permitted headers by the number of a main type.
-use Prim.Native.Nat.{ℕ, zero, suc, _+_, _*_, _<_}
-use mathlib.Core.Path.{_≡_, refl, sym, _∙_}
-use mathlib.Core.Bool.{Bool, true, false, not, _&&_, and-true}
+use Prim.Native.Nat.{ℕ, zero, suc, _+_, _*_, _≤_, _<_}
+use mathlib.Core.Path.{_≡_, refl, sym, _∙_, ap}
+use mathlib.Core.Bool.{Bool, true, false, cond, not, _&&_, _||_, and-true, and-false}
 use native.Mathlib.Omega.{arith}
 use native.Mathlib.Decide.{decLt}
 use lib.Dec.{eqb, leb, ltb}
 use borrow.Author.Tests.{lt-ltb, le-ltb, ne-eqb, eqb-true, eqb-false, lt-leb, not-true, not-false}
-use Rattle.iscc.specs.Permitted.{META, SEMANTIC, CONTENT, DATA, INSTANCE, ISCC, ID, number, typeOf, compositeSubtype, row, setOf, unitCount, bodyBytes}
+use Rattle.iscc.specs.Permitted.{META, SEMANTIC, CONTENT, DATA, INSTANCE, ISCC, ID, number, typeOf, compositeSubtype, isWide, row, sets, setOf, unitCount, bodyBytes}
 use Rattle.iscc.specs.Permitted as permitted
 use Rattle.iscc.specs.declared.main_type.MainType.{MainType}
 use Rattle.iscc.proofs.Booleans.{and-last}
-use Rattle.iscc.proofs.Permitted.{number-small, type-number}
+use Rattle.iscc.proofs.Permitted.{number-small, type-number, wide-numbers, count-most}
 use Rattle.unit.specs.Representation.{inRow, permitsAs}
 
 -- what holds of each main type's number holds of every number below 7
@@ -62,19 +62,56 @@ row-none m s l a a′ b b′ c c′ d d′ e e′ f f′ g g′ =
     let n : ℕ = m .number in
     rw (none-of-seven n (is-no n _ a a′) (is-no n _ b b′) (is-no n _ c c′) (is-no n _ d d′) (is-no n _ e e′) (is-no n _ f f′) (is-no n _ g g′))
 
+-- a wide composite's two numbers
+module _ (s l : ℕ) where
+  pub wide-not : (l ≡ 0 → ⊥) → false ≡ isWide s l
+  unfolding isWide
+  wide-not h = rw (ne-eqb l 0 h) (sym (and-false (eqb s 7)))
+
+  pub wide-if : l ≡ 0 → eqb s 7 ≡ isWide s l
+  unfolding isWide
+  wide-if h = rw h (sym (and-true (eqb s 7)))
+
+-- the subtype of a composite of two units
+pub two-wide : (s : ℕ) → s ≡ 7 → true ≡ (eqb s 7 || eqb s 5)
+two-wide s h = rw h
+
+pub two-others : (s : ℕ) → (s ≡ 7 → ⊥) → eqb s 5 ≡ (eqb s 7 || eqb s 5)
+two-others s h = rw (ne-eqb s 7 h)
+
 -- a composite's row
 module _ (s l : ℕ) where
-  pub composite-0 : l ≡ 0 → eqb s 5 ≡ row ISCC s l
-  unfolding row compositeSubtype
-  composite-0 e = rw e (sym (and-true (eqb s 5)))
+  pub composite-0 : {r : Bool} → l ≡ 0 → r ≡ (eqb s 7 || eqb s 5) → r ≡ row ISCC s l
+  unfolding row compositeSubtype isWide
+  composite-0 z g = g ∙ rw (z, and-true (eqb s 7), and-true (eqb s 5))
 
-  pub composite-4 : l ≡ 4 → eqb s 6 ≡ row ISCC s l
-  unfolding row compositeSubtype
-  composite-4 e = rw e (sym (and-true (eqb s 6)))
+  module _ (h : l ≡ 0 → ⊥) where
+    pub composite-4 : l ≡ 4 → eqb s 6 ≡ row ISCC s l
+    unfolding row compositeSubtype
+    composite-4 z = rw (← wide-not s l h, z) (sym (and-true (eqb s 6)))
 
-  pub composite-other : {r : Bool} → (l ≡ 0 → ⊥) → (l ≡ 4 → ⊥) → r ≡ (leb s 4 && leb l 7) → r ≡ row ISCC s l
-  unfolding row compositeSubtype
-  composite-other a b g = g ∙ rw (ne-eqb l 0 a, ne-eqb l 4 b)
+    pub composite-other : {r : Bool} → (l ≡ 4 → ⊥) → r ≡ (leb s 4 && leb l 7) → r ≡ row ISCC s l
+    unfolding row compositeSubtype
+    composite-other b g = g ∙ rw (← wide-not s l h, ne-eqb l 0 h, ne-eqb l 4 b)
+
+-- a composite's body
+module _ (s l : ℕ) {w : Bool} (e : w ≡ isWide s l) where
+  pub sixteen : w ≡ true → _≡_ {A = ℕ} 16 (cond (isWide s l) 16 8)
+  sixteen h = rw (← e, h)
+
+  pub eight : w ≡ false → _≡_ {A = ℕ} 8 (cond (isWide s l) 16 8)
+  eight h = rw (← e, h)
+
+units-bytes : (s l k : ℕ) (b : Bool) → isWide s l ≡ b → k ≡ unitCount (setOf l) → (k * cond b 16 8 ≡ cond b 32 (unitCount (setOf l) * 8)) × (k * cond b 16 8 ≤ 40)
+unfolding setOf sets
+units-bytes s l k true w g =
+    let two : k ≡ 2 = g ∙ ap (λ (n : ℕ). unitCount (setOf n)) (wide-numbers s l w .1) in
+    (omega (arith, two), omega (arith, two))
+units-bytes s l k false w g = (rw g, omega (arith, g, count-most (setOf l)))
+
+pub body-units : (s l k u : ℕ) → k ≡ unitCount (setOf l) → u ≡ cond (isWide s l) 16 8 → (k * u ≡ bodyBytes ISCC s l) × (k * u ≤ 40)
+unfolding bodyBytes
+body-units s l k u g e = rw e (units-bytes s l k (isWide s l) refl g)
 
 -- the definition tests the version before the row
 module _ (m : MainType) (s v l : ℕ) where
@@ -88,9 +125,9 @@ module _ (m : MainType) (s v l : ℕ) where
 
 -- the bodies by number
 module _ (n s l : ℕ) {t : Bool} where
-  pub body-composite : (k : ℕ) → t ≡ eqb n (number ISCC) → t ≡ true → k ≡ unitCount (setOf l) → k * 8 ≡ bodyBytes (typeOf n) s l
-  unfolding bodyBytes typeOf
-  body-composite k e h g = rw (is-yes n (number ISCC) e h, g)
+  pub body-composite : (k : ℕ) → t ≡ eqb n (number ISCC) → t ≡ true → k ≡ bodyBytes ISCC s l → k ≡ bodyBytes (typeOf n) s l
+  unfolding typeOf
+  body-composite k e h g = rw (is-yes n (number ISCC) e h) g
 
   pub body-id : t ≡ eqb n (number ID) → t ≡ true → 8 + l ≡ bodyBytes (typeOf n) s l
   unfolding bodyBytes typeOf

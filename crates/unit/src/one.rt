@@ -27,7 +27,7 @@ pub fn read(bytes: &[u8]) -> UnitRead
     }
 }
 
-fn wide(x: u8) -> u32
+fn widen(x: u8) -> u32
     ensures { λ r. ⌜ (r ≡ x) × (r < 256) ⌝ }
 {
     x as u32
@@ -41,8 +41,8 @@ pub fn is_one(bytes: &[u8]) -> bool
     if bytes.len() < 2 {
         return false;
     }
-    let first = wide(bytes[0]);
-    let second = wide(bytes[1]);
+    let first = widen(bytes[0]);
+    let second = widen(bytes[1]);
     let named = MainType::from_number(first / 16);
     match named {
         Named::Refused(_) => false,

@@ -29,7 +29,7 @@ loop-again c =
     let at = c .before .before .before in
     let a = at .before .before .args in (
       omega arith,
-      loaded-one (c .wide .result) (at .loop .inv .1) (omega (arith, length-drop (a .at) (a .bytes .now))) (c .wide .ensures .0 ∙ sym (getD-drop (a .at) (a .bytes .now) (at .loop .i) 0)) (c .wide .ensures .1),
+      loaded-one (c .widen .result) (at .loop .inv .1) (omega (arith, length-drop (a .at) (a .bytes .now))) (c .widen .ensures .0 ∙ sym (getD-drop (a .at) (a .bytes .now) (at .loop .i) 0)) (c .widen .ensures .1),
     )
 
 returns : tie.Need-returns Inv-loop μ-loop

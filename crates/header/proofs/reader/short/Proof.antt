@@ -10,7 +10,7 @@ same-header : (x y a b : ℕ) → x ≡ a → y ≡ b → shortHeader x y ≡ sh
 same-header x y a b e f = rw (e, f)
 
 returns : tie.Need-returns
-returns c = same-header _ _ _ _ (c .before .wide .ensures .0) (c .wide2 .ensures .0)
+returns c = same-header _ _ _ _ (c .before .widen .ensures .0) (c .widen2 .ensures .0)
 
 pub short-spec : {M : Type 1} → statement M
 short-spec = tie.close (tie.spec (λ c κs. search needs) (λ c κs. search needs) returns)

@@ -12,14 +12,14 @@ returns-2 c =
     let low = c .before in
     let high = low .before .before in
     let start = high .before .before in
-    body-torn _ _ (start .before .before .pre) (start .if1 .left) _ _ (high .wide .ensures .0) (low .wide2 .ensures .0) (c .if2 .taken)
+    body-torn _ _ (start .before .before .pre) (start .if1 .left) _ _ (high .widen .ensures .0) (low .widen2 .ensures .0) (c .if2 .taken)
 
 returns-3 : tie.Need-returns-3
 returns-3 c =
     let low = c .before in
     let high = low .before .before in
     let start = high .before .before in
-    size-whole _ _ (start .before .before .pre) (start .if1 .left) _ _ (high .wide .ensures .0) (low .wide2 .ensures .0) (c .if2 .left)
+    size-whole _ _ (start .before .before .pre) (start .if1 .left) _ _ (high .widen .ensures .0) (low .widen2 .ensures .0) (c .if2 .left)
 
 pub whole-size-spec : {M : Type 1} → statement M
 whole-size-spec =

@@ -22,7 +22,7 @@ unfolding value
 loop-holds c = (omega arith, refl)
 
 loop-again : tie.Need-loop-again Inv-loop μ-loop
-loop-again c = (search needs, read-more _ _ _ _ _ (c .before .before .loop-test .taken) (c .before .before .before .loop .inv .1) (c .wide .ensures .0) (c .wide .ensures .1) refl)
+loop-again c = (search needs, read-more _ _ _ _ _ (c .before .before .loop-test .taken) (c .before .before .before .loop .inv .1) (c .widen .ensures .0) (c .widen .ensures .1) refl)
 
 returns : tie.Need-returns Inv-loop μ-loop
 returns c = c .before .loop .inv .1 ∙ ap (λ (xs : List ℕ). value 8 xs % 2 ^ 32) (take-all _ _ (c .loop-test .left))

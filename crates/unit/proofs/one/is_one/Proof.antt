@@ -22,7 +22,7 @@ returns-4 c =
     let n = p .before .before in
     let t = n .before .before in
     let w = t .before .before .before in
-    whole-test _ (from-type t) (w .wide .ensures .0) (t .before .wide2 .ensures .0) (t .from-number .ensures) _ (n .named .given .1) (p .permits .ensures)
+    whole-test _ (from-type t) (w .widen .ensures .0) (t .before .widen2 .ensures .0) (t .from-number .ensures) _ (n .named .given .1) (p .permits .ensures)
     (w .before .before .if1 .left) (c .before .if2 .left) (c .body-bytes .ensures .0)
 
 pub is-one-spec : {M : Type 1} → statement M

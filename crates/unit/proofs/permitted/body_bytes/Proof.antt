@@ -11,8 +11,7 @@ body-bytes-spec =
     (tie.spec
     (λ c κs. search needs)
     (λ c κs. search needs)
-    (λ c. search needs)
-    (λ c. (search body-composite, omega arith))
+    (λ c. (search body-composite, search needs))
     (λ c κs. search needs)
     (λ c. search needs)
     (λ c. (search body-id, omega arith))

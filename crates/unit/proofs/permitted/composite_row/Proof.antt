@@ -5,4 +5,11 @@ use Rattle.unit.proofs.permitted.composite_row.Statement.{statement}
 use Rattle.unit.proofs.permitted.composite_row.Tie as tie
 
 pub composite-row-spec : {M : Type 1} → statement M
-composite-row-spec = tie.close (tie.spec (λ c. search composite-0) (λ c. search composite-4) (λ c κs. search needs) (λ c. search composite-other))
+composite-row-spec =
+    tie.close
+    (tie.spec
+    (λ c κs. search needs)
+    (λ c. search composite-0)
+    (λ c. search composite-4)
+    (λ c κs. search needs)
+    (λ c. search composite-other))
