@@ -88,8 +88,7 @@ pub(crate) fn permits(main_type: MainType, subtype: u32, version: u32, length_nu
     version == 0
 }
 
-// The bytes of each body in a composite: sixteen if it is wide, else eight. The choice of two numbers compiles to no branch: with
-// one, on codes of all kinds in any order, a replay took a third longer.
+// The bytes of each body in a composite: sixteen if it is wide, else eight.
 fn unit_bytes(subtype: u32, length_number: u32) -> usize
     ensures { λ r. ⌜ r ≡ cond (isWide subtype «length_number») 16 8 ⌝ }
 {
