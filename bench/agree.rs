@@ -1,8 +1,8 @@
 //! Both sides must answer alike, or their times say nothing: on every measured input, with the number that its row states; and
 //! on what is near the first input of a row: its beginnings, and each change of one byte. Calls on a register must agree on
-//! damaged ones too, and change no more than the place that is put back behind a measured call. Logs are appended in areas
-//! of other lengths and at other positions too, and replayed where they are torn or a record stops them. The leaf and the loops
-//! in C count alike on bodies of every length.
+//! damaged ones too and on codes near those that are out, and change no more than is put back behind a measured call. Logs are
+//! appended in areas of other lengths and at other positions too, and replayed where they are torn or a record stops them. The
+//! leaf and the loops in C count alike on bodies of every length.
 
 use crate::leaf;
 use crate::logs::{self, Record};
@@ -57,14 +57,12 @@ fn called<T: Debug + PartialEq>(sides: [OnRegister<T>; 2], input: &[u8], area: &
     proved
 }
 
-/// The number that both sides answer to a text; they change nothing that is not put back.
-fn registered(call: Loan, text: &[u8], register: &Register) -> u32 {
-    let (answer, area) = called(sides(call), text, &register.area);
+/// Both sides change nothing that is not put back behind a measured call.
+fn check_put_back(call: Loan, text: &[u8], register: &Register) {
     let mut left = register.clone();
-    left.area = area;
+    left.area = called(sides(call), text, &register.area).1;
     left.put_back();
-    assert!(left.area == register.area, "more than a place is changed, on {text:02x?} and {:02x?}", register.area);
-    answer.0
+    assert!(left.area == register.area, "more is changed than is put back, on {text:02x?} and {:02x?}", register.area);
 }
 
 /// The number and the position that both sides answer where they append records to a log, and the log then.
@@ -96,7 +94,7 @@ fn number(row: &Row, case: usize, input: &[u8]) -> u32 {
         Call::Base32Write => written([library::base32_write, plain::base32_write], row, input),
         Call::Join => written([library::join, plain::join], row, input),
         Call::Split | Call::Differing => row.number,
-        Call::Loan(call) => registered(call, input, &row.registers[case]),
+        Call::Loan(call) => called(sides(call), input, &row.registers[case].area).0 .0,
         Call::Append => written_again(input),
         Call::Replay => called(REPLAYS, input, &row.registers[case].area).0 .0,
         Call::Distance => {
@@ -124,7 +122,7 @@ fn neighbours(input: &[u8], mut check: impl FnMut(&[u8])) {
     }
 }
 
-/// The area with each byte in turn changed, and with the first place over each other, so that its code stands twice.
+/// The area with each byte in turn changed.
 fn damaged(area: &[u8], mut check: impl FnMut(&[u8])) {
     let mut changed = area.to_vec();
     for offset in 0..area.len() {
@@ -132,10 +130,29 @@ fn damaged(area: &[u8], mut check: impl FnMut(&[u8])) {
         check(&changed);
         changed[offset] = area[offset];
     }
-    for offset in (PLACE..area.len()).step_by(PLACE) {
-        changed.copy_within(..PLACE, offset);
+}
+
+/// No registers, though each of their places is one: each used place of a register exchanged with the one behind it, or written
+/// over it; the first over each of the others; and each place freed that is before a used one.
+fn out_of_order(area: &[u8], mut check: impl FnMut(&[u8])) {
+    let places: Vec<&[u8]> = area.chunks_exact(PLACE).collect();
+    let is_used = |&place: &usize| places[place][0] != 0;
+    let mut with = |changes: &[(usize, &[u8])]| {
+        let mut changed = area.to_vec();
+        for &(place, bytes) in changes {
+            changed[PLACE * place..PLACE * (place + 1)].copy_from_slice(bytes);
+        }
         check(&changed);
-        changed[offset..offset + PLACE].copy_from_slice(&area[offset..offset + PLACE]);
+    };
+    for place in (0..PLACES - 1).filter(is_used) {
+        with(&[(place, places[place + 1]), (place + 1, places[place])]);
+        with(&[(place + 1, places[place])]);
+        if is_used(&(place + 1)) {
+            with(&[(place, &[0; PLACE])]);
+        }
+    }
+    if is_used(&0) {
+        (1..PLACES).for_each(|place| with(&[(place, places[0])]));
     }
 }
 
@@ -147,16 +164,32 @@ fn other_lengths(area: &[u8], mut check: impl FnMut(&[u8])) {
     }
 }
 
-/// Calls on the first register of a row: for each code that is out, and with the first text where it is damaged or has another
-/// length. A refused text is refused whatever the area.
-fn check_register(call: Loan, row: &Row) {
-    let (text, area) = (&row.inputs[0], &row.registers[0].area);
+/// A code, and those right before and behind it of the same header; the last is followed by the first.
+fn around(code: &[u8]) -> [Vec<u8>; 3] {
+    let (head, last) = code.split_last_chunk().unwrap();
+    let last = u32::from_be_bytes(*last);
+    [last.wrapping_sub(1), last, last.wrapping_add(1)].map(|last| [head, &last.to_be_bytes()].concat())
+}
+
+/// Calls for each code that is out and for those around it.
+fn check_codes(call: Loan, area: &[u8]) {
     for place in area.chunks_exact(PLACE).filter(|place| place[0] != 0) {
-        called(sides(call), &inputs::spelt(&place[1..=place[0] as usize]), area);
+        for code in around(&place[1..=place[0] as usize]) {
+            called(sides(call), &inputs::spelt(&code), area);
+        }
     }
+}
+
+/// Calls on the registers of a row, and on the first: for codes that are out or near one, and with the first text where the
+/// register is damaged or has another length. A refused text is refused whatever the area.
+fn check_register(call: Loan, row: &Row) {
+    row.inputs.iter().zip(&row.registers).for_each(|(text, register)| check_put_back(call, text, register));
+    let (text, area) = (&row.inputs[0], &row.registers[0].area);
+    check_codes(call, area);
     damaged(area, |area| {
         called(sides(call), text, area);
     });
+    out_of_order(area, |area| assert_eq!(called(sides(call), text, area).0, (23, 0, 0), "{row}: out of order"));
     other_lengths(area, |area| {
         let number = |text: &[u8]| called(sides(call), text, area).0 .0;
         assert_eq!([number(text), number(b"")], [23, 1], "{row}: on {} bytes", area.len());
@@ -198,9 +231,10 @@ fn picked(log: &[u8], takes: impl Fn(&Record) -> bool) -> Vec<u8> {
 }
 
 /// Replays on the first register of a row: of logs near the beginning of the first one, of logs that a record stops, and of
-/// the beginning where the register is damaged or has another length.
+/// the beginning where the register is damaged or has another length. And the other calls: only here codes differ in length.
 fn check_replay(row: &Row) {
     let (log, area) = (&row.inputs[0], &row.registers[0].area);
+    [Loan::Issue, Loan::Return, Loan::Ask].into_iter().for_each(|call| check_codes(call, area));
     let replayed = |log: &[u8]| called(REPLAYS, log, area).0;
     let start = &log[..log.len().min(SHORT)];
     neighbours(start, |log| {
@@ -218,6 +252,7 @@ fn check_replay(row: &Row) {
     damaged(area, |area| {
         called(REPLAYS, start, area);
     });
+    out_of_order(area, |area| assert_eq!(called(REPLAYS, start, area).0, (23, 0, 0), "{row}: out of order"));
     other_lengths(area, |area| assert_eq!(called(REPLAYS, log, area).0, (23, 0, 0), "{row}: on {} bytes", area.len()));
 }
 

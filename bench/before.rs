@@ -1,5 +1,6 @@
-//! Two revisions of the library through their C entries, in one process. `before check` says which rows are left out and whether
-//! both answer alike on the others; `before measure` prints the figures of this process, a row a line, with tabs between them.
+//! Two revisions of the library through their C entries, in one process. `before check ROWS` says which rows are left out and
+//! whether both answer alike on the others; `before measure ROWS` prints the figures of this process, a row a line, with tabs
+//! between them. ROWS is `all`, or `register` for those of calls on a register.
 
 mod entry;
 mod inputs;
@@ -14,7 +15,7 @@ mod turns;
 
 use entry::{LogIssue, LogReturn};
 use logs::Record;
-use registers::{Register, BORROWER};
+use registers::{Register, BORROWER, PLACE};
 use revisions::{Entries, Entry};
 use rows::Row;
 use std::process::exit;
@@ -25,8 +26,10 @@ const ROUNDS: usize = 250;
 /// Calls are doubled until they take longer than this, so that a turn takes some 300 microseconds.
 const TURN: Duration = Duration::from_micros(200);
 
-/// The records of the logs that are replayed: few, so that a turn is not much longer than others.
-const RECORDS: [usize; 2] = [1, 1_000];
+/// The records of the logs that are replayed. A turn of the longer log is one call, and takes longer than others.
+const RECORDS: [usize; 2] = [1, 100_000];
+/// The records that are appended: few, so that a cache can hold their log.
+const APPENDED: usize = 1_000;
 
 /// The entries of a row, before and after.
 type Sides = [Entry; 2];
@@ -37,7 +40,8 @@ enum Answer {
     Tested(u32),
     Measured((u32, u32, u32, f32)),
     Counted(u16),
-    Held((u32, u32)),
+    /// With the looks, where both tell them.
+    Held((u32, u32), Option<u32>),
     Replayed((u32, u32, usize)),
 }
 
@@ -45,7 +49,7 @@ impl Answer {
     fn number(&self) -> u32 {
         match *self {
             Answer::Written((number, _)) | Answer::Tested(number) => number,
-            Answer::Measured((number, ..)) | Answer::Held((number, _)) | Answer::Replayed((number, ..)) => number,
+            Answer::Measured((number, ..)) | Answer::Held((number, _), _) | Answer::Replayed((number, ..)) => number,
             Answer::Counted(_) => 0,
         }
     }
@@ -65,6 +69,14 @@ fn writer(issue: LogIssue, take_back: LogReturn) -> impl Fn(&mut [u8], usize, &R
     move |log, position, record| entry::append(issue, take_back, log, position, record)
 }
 
+fn sorted(area: &[u8]) -> Vec<u8> {
+    let mut places: Vec<&[u8]> = area.chunks(PLACE).collect();
+    places.sort();
+    places.concat()
+}
+
+/// What the entry answers, and the area that it leaves. Where one revision has another order of places than the other, those of a
+/// register that was changed are sorted: both promise the same loans then, and not where each stands.
 fn answer(entry: Entry, row: &Row, case: usize) -> (Answer, Vec<u8>) {
     let input = &row.inputs[case];
     let mut area = row.registers.get(case).map_or_else(|| row.area(), |register| register.area.clone());
@@ -75,13 +87,18 @@ fn answer(entry: Entry, row: &Row, case: usize) -> (Answer, Vec<u8>) {
         Entry::Count(entry) => Answer::Counted(entry::count(entry, input, &row.inputs[0])),
         Entry::Issue(entry) => Answer::Tested(entry::issue(entry, input, BORROWER, &mut area)),
         Entry::Return(entry) => Answer::Tested(entry::take_back(entry, input, &mut area)),
-        Entry::Ask(entry) => Answer::Held(entry::ask(entry, input, &area)),
+        Entry::Ask(entry) => {
+            let (number, borrower, looks) = entry::ask(entry, input, &area);
+            Answer::Held((number, borrower), Entries::order_alike().then_some(looks))
+        }
+        Entry::AskHolder(entry) => Answer::Held(revisions::ask_holder(entry, input, &area), None),
         Entry::Append(issue, take_back) => {
             Answer::Written(logs::append(&logs::records(input), &mut area, 0, writer(issue, take_back)))
         }
         Entry::Replay(entry) => Answer::Replayed(entry::replay(entry, input, &mut area)),
     };
-    (answer, area)
+    let changed = row.registers.get(case).is_some_and(|register| register.area != area);
+    (answer, if changed && !Entries::order_alike() { sorted(&area) } else { area })
 }
 
 /// Whether both answer alike, and with the number that the row states.
@@ -107,12 +124,12 @@ struct Areas<'a> {
     records: Vec<Record<'a>>,
     /// Never cleared: each call writes over what the last one wrote.
     area: Vec<u8>,
-    /// Each is put back behind a call.
+    /// Put back behind the calls on them.
     registers: Vec<Register>,
 }
 
-/// Calls on the inputs in turn.
-fn run(entry: Entry, row: &Row, Areas { records, area, registers }: &mut Areas, calls: usize) {
+/// Calls on the inputs in turn, and the time of them.
+fn run(entry: Entry, row: &Row, Areas { records, area, registers }: &mut Areas, calls: usize) -> Duration {
     match entry {
         Entry::Writer(entry) => over(&row.inputs, calls, |input| entry::write(entry, input, area)),
         Entry::Test(entry) => over(&row.inputs, calls, |input| entry::test(entry, input)),
@@ -125,6 +142,9 @@ fn run(entry: Entry, row: &Row, Areas { records, area, registers }: &mut Areas, 
             registers::over(&row.inputs, registers, calls, |text, area| entry::take_back(entry, text, area))
         }
         Entry::Ask(entry) => registers::over(&row.inputs, registers, calls, |text, area| entry::ask(entry, text, area)),
+        Entry::AskHolder(entry) => {
+            registers::over(&row.inputs, registers, calls, |text, area| revisions::ask_holder(entry, text, area))
+        }
         Entry::Append(issue, take_back) => logs::over(records, area, calls, writer(issue, take_back)),
         Entry::Replay(entry) => registers::over(&row.inputs, registers, calls, |log, area| entry::replay(entry, log, area)),
     }
@@ -150,15 +170,22 @@ fn measure(row: &Row, sides: Sides) {
 }
 
 fn main() {
-    let rows = rows::all();
+    let words: Vec<String> = std::env::args().skip(1).collect();
+    let [mode, which] = &words[..] else { exit(2) };
+    let mut rows = rows::all();
+    match which.as_str() {
+        "all" => {}
+        "register" => rows.retain(|row| !row.registers.is_empty()),
+        _ => exit(2),
+    }
     let both = rows.iter().filter_map(|row| Some((row, [Entries::before().of(row.call)?, Entries::after().of(row.call)?])));
-    match std::env::args().nth(1).as_deref() {
-        Some("check") => {
+    match mode.as_str() {
+        "check" => {
             name_left_out(&rows);
             let differ = both.filter(|&(row, sides)| !alike(row, sides)).count();
             exit((differ > 0) as i32)
         }
-        Some("measure") => both.for_each(|(row, sides)| measure(row, sides)),
+        "measure" => both.for_each(|(row, sides)| measure(row, sides)),
         _ => exit(2),
     }
 }

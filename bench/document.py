@@ -2,7 +2,7 @@
 
 usage: python3 bench/document.py NAME < PART
 
-The part replaces what stands between the two marks of NAME, which is the script that made it.
+The part replaces what stands between the two marks of NAME, which is the script that made it, with the revision if it took one.
 """
 
 import sys

@@ -20,6 +20,7 @@ pub struct DistanceAnswer {
 pub struct Holder {
     number: u32,
     borrower: u32,
+    looks: u32,
 }
 
 #[repr(C)]
@@ -42,7 +43,7 @@ pub type Count = unsafe extern "C" fn(*const u8, usize, *const u8, usize) -> u16
 pub type Issue = unsafe extern "C" fn(*const u8, usize, u32, *mut u8, usize) -> u32;
 /// Reads one area, reads and writes another: a code comes back.
 pub type Return = unsafe extern "C" fn(*const u8, usize, *mut u8, usize) -> u32;
-/// Reads two areas: who has a code.
+/// Reads two areas: who has a code, and how many places were looked at.
 pub type Ask = unsafe extern "C" fn(*const u8, usize, *const u8, usize) -> Holder;
 
 /// Writes one area at a position, reads another: the record of a code that goes out to a borrower.
@@ -84,10 +85,10 @@ pub fn take_back(entry: Return, text: &[u8], area: &mut [u8]) -> u32 {
     unsafe { entry(text.as_ptr(), text.len(), area.as_mut_ptr(), area.len()) }
 }
 
-pub fn ask(entry: Ask, text: &[u8], area: &[u8]) -> (u32, u32) {
+pub fn ask(entry: Ask, text: &[u8], area: &[u8]) -> (u32, u32, u32) {
     // The areas are as long as said.
     let answer = unsafe { entry(text.as_ptr(), text.len(), area.as_ptr(), area.len()) };
-    (answer.number, answer.borrower)
+    (answer.number, answer.borrower, answer.looks)
 }
 
 pub fn append(issue: LogIssue, take_back: LogReturn, log: &mut [u8], position: usize, record: &Record) -> (u32, usize) {

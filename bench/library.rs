@@ -60,7 +60,7 @@ pub fn take_back(text: &[u8], area: &mut [u8]) -> u32 {
     entry::take_back(loans_return, text, area)
 }
 
-pub fn ask(text: &[u8], area: &[u8]) -> (u32, u32) {
+pub fn ask(text: &[u8], area: &[u8]) -> (u32, u32, u32) {
     entry::ask(loans_ask, text, area)
 }
 

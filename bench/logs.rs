@@ -3,7 +3,9 @@
 use crate::inputs;
 use crate::random::Random;
 use crate::registers::{self, Codes, Register};
+use crate::turns::time;
 use std::hint::black_box;
+use std::time::Duration;
 
 #[derive(Clone, Copy)]
 pub enum Kind {
@@ -51,8 +53,7 @@ pub fn listed(count: usize, kinds: &[Kind]) -> Vec<u8> {
 /// A log that a replay takes to its end, and the register that it is for. About so many codes are out all the while: an
 /// issue is of one that is not out, a return of any that is.
 fn replayable(count: usize, out: usize, random: &mut Random) -> (Vec<u8>, Register) {
-    let mut held = registers::distinct_codes(Codes::Mixed, out, random);
-    held.truncate(out);
+    let mut held = registers::codes_in_order(Codes::Mixed, out, random);
     let area = registers::area_of(&held, random);
     let mut log = Vec::new();
     for _ in 0..count {
@@ -112,9 +113,17 @@ pub fn append(
     (0, position)
 }
 
-/// Appends all records to the log from its start, so many times. What is answered is used, so that no call can be left out.
-pub fn over(records: &[Record], log: &mut [u8], times: usize, write: impl Fn(&mut [u8], usize, &Record) -> (u32, usize)) {
-    for _ in 0..times {
-        black_box(append(black_box(records), black_box(log), 0, &write));
-    }
+/// Appends all records to the log from its start, so many times, and answers the time of it. What a call answers is used, so
+/// that none can be left out.
+pub fn over(
+    records: &[Record],
+    log: &mut [u8],
+    times: usize,
+    write: impl Fn(&mut [u8], usize, &Record) -> (u32, usize),
+) -> Duration {
+    time(|| {
+        for _ in 0..times {
+            black_box(append(black_box(records), black_box(log), 0, &write));
+        }
+    })
 }

@@ -26,17 +26,22 @@ type OnRegister<T> = fn(&[u8], &mut [u8]) -> T;
 
 /// The records of the logs that are replayed. The time of a single one is nearly that of the test for 23.
 const RECORDS: [usize; 4] = [1, 25_000, 50_000, 100_000];
+/// The records that are appended.
+const APPENDED: usize = 100_000;
 
 /// The proved and the plain side of a replay.
 const REPLAYS: [OnRegister<(u32, u32, usize)>; 2] = [library::replay, plain::replay];
 
-/// The proved and the plain side of a call on a register: its number, and the borrower where one is told.
-fn sides(call: Loan) -> [OnRegister<(u32, u32)>; 2] {
+/// The proved and the plain side of a call on a register: its number, and of a question the borrower and the looks.
+fn sides(call: Loan) -> [OnRegister<(u32, u32, u32)>; 2] {
     match call {
-        Loan::Issue => {
-            [|text, area| (library::issue(text, BORROWER, area), 0), |text, area| (plain::issue(text, BORROWER, area), 0)]
+        Loan::Issue => [
+            |text, area| (library::issue(text, BORROWER, area), 0, 0),
+            |text, area| (plain::issue(text, BORROWER, area), 0, 0),
+        ],
+        Loan::Return => {
+            [|text, area| (library::take_back(text, area), 0, 0), |text, area| (plain::take_back(text, area), 0, 0)]
         }
-        Loan::Return => [|text, area| (library::take_back(text, area), 0), |text, area| (plain::take_back(text, area), 0)],
         Loan::Ask => [|text, area| library::ask(text, area), |text, area| plain::ask(text, area)],
     }
 }

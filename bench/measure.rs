@@ -44,8 +44,8 @@ pub fn median(mut figures: Vec<f64>) -> f64 {
     figures[figures.len() / 2]
 }
 
-/// Each side takes a count of calls to make.
-pub fn side_by_side(mut proved: impl FnMut(usize), mut plain: impl FnMut(usize)) -> Figures {
+/// Each side takes a count of calls to make, and answers their time.
+pub fn side_by_side(mut proved: impl FnMut(usize) -> Duration, mut plain: impl FnMut(usize) -> Duration) -> Figures {
     let calls = [calls_in(TURN, &mut proved), calls_in(TURN, &mut plain)];
     let times = in_turns(ROUNDS, calls, |side, calls| if side == 0 { proved(calls) } else { plain(calls) });
     let ratio = Ratio::of(&times);

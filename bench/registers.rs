@@ -2,7 +2,10 @@
 
 use crate::inputs;
 use crate::random::Random;
+use crate::turns::time;
 use std::hint::black_box;
+use std::ops::Range;
+use std::time::Duration;
 
 pub const PLACE: usize = 48;
 pub const PLACES: usize = 256;
@@ -21,17 +24,16 @@ pub struct Register {
 }
 
 impl Register {
-    /// A call may change one place.
-    fn new(area: Vec<u8>, place: usize) -> Register {
-        let offset = PLACE * place;
-        let part = area[offset..offset + PLACE].to_vec();
+    /// The call may change these places.
+    fn new(area: Vec<u8>, places: Range<usize>) -> Register {
+        let offset = PLACE * places.start;
+        let part = area[offset..PLACE * places.end].to_vec();
         Register { area, offset, part }
     }
 
     /// A replay may change every place.
     pub fn whole(area: Vec<u8>) -> Register {
-        let part = area.clone();
-        Register { area, offset: 0, part }
+        Register::new(area, 0..PLACES)
     }
 
     /// Undoes what the measured call changed.
@@ -68,20 +70,22 @@ pub fn another(held: &[Vec<u8>], mut next: impl FnMut() -> Vec<u8>) -> Vec<u8> {
     }
 }
 
-/// So many codes and one more.
-pub fn distinct_codes(codes: Codes, out: usize, random: &mut Random) -> Vec<Vec<u8>> {
-    let first = inputs::composite(random);
-    let mut all = vec![first.clone()];
-    while all.len() <= out {
+/// So many codes in rising order, none of them twice.
+pub fn codes_in_order(codes: Codes, count: usize, random: &mut Random) -> Vec<Vec<u8>> {
+    let like = inputs::composite(random);
+    let mut all = Vec::new();
+    while all.len() < count {
         all.push(another(&all, || match codes {
             Codes::Random => inputs::composite(random),
-            Codes::Alike => [&first[..first.len() - 4], &random.bytes(4)].concat(),
+            Codes::Alike => [&like[..like.len() - 4], &random.bytes(4)].concat(),
             Codes::Mixed => inputs::mixed(random),
         }));
     }
+    all.sort();
     all
 }
 
+/// The register of these codes, which are in order.
 pub fn area_of(codes: &[Vec<u8>], random: &mut Random) -> Vec<u8> {
     let mut area = vec![0; PLACES * PLACE];
     for (place, code) in area.chunks_exact_mut(PLACE).zip(codes) {
@@ -92,26 +96,46 @@ pub fn area_of(codes: &[Vec<u8>], random: &mut Random) -> Vec<u8> {
     area
 }
 
-/// Texts as they are written, and a register for each, with so many codes out in the lowest places. Wanted codes that are out
-/// stand at even distances from the first place on, a register farther each.
+/// A place of the part that belongs to a register by its number, where all places are parted evenly among the registers. Places
+/// at even distances would not do: a search that halves is sooner at such ones than at most others.
+fn place_in_part(number: usize, places: usize, random: &mut Random) -> usize {
+    let [start, end] = [number, number + 1].map(|number| number * places / REGISTERS);
+    start + random.below((end - start).max(1))
+}
+
+/// Texts as they are written, and a register for each, with so many codes out. Wanted are codes from all parts of the order.
 pub fn made(codes: Codes, out: usize, wanted: Wanted) -> (Vec<Vec<u8>>, Vec<Register>) {
     let case = |number: usize| {
         let random = &mut Random::of_case(20, out as u64, number as u64);
-        let mut all = distinct_codes(codes, out, random);
-        let other = all.pop().unwrap();
+        let count = if wanted == Wanted::Out { out } else { out + 1 };
+        let mut all = codes_in_order(codes, count, random);
+        let place = place_in_part(number, count, random);
+        let code = if wanted == Wanted::Out { all[place].clone() } else { all.remove(place) };
         let area = area_of(&all, random);
-        let place = if wanted == Wanted::Out { number * out / REGISTERS } else { out % PLACES };
-        let code = if wanted == Wanted::Out { &all[place] } else { &other };
-        (inputs::spelt(code), Register::new(area, place))
+        // From its place on, up to and with the first that is free.
+        let changed = place.min(PLACES)..(out + 1).min(PLACES);
+        (inputs::spelt(&code), Register::new(area, changed))
     };
     (0..REGISTERS).map(case).unzip()
 }
 
-/// Calls with the texts in turn, each on its register. What is answered is used, so that no call can be left out.
-pub fn over<T>(texts: &[Vec<u8>], registers: &mut [Register], calls: usize, mut call: impl FnMut(&[u8], &mut [u8]) -> T) {
-    for turn in (0..texts.len()).cycle().take(calls) {
-        let register = &mut registers[turn];
-        black_box(call(black_box(&texts[turn]), black_box(&mut register.area)));
-        register.put_back();
+/// Calls with the texts in turn, each on its register, and the time of them. The clock stands still while registers are put
+/// back. What a call answers is used, so that none can be left out.
+pub fn over<T>(
+    texts: &[Vec<u8>],
+    registers: &mut [Register],
+    calls: usize,
+    mut call: impl FnMut(&[u8], &mut [u8]) -> T,
+) -> Duration {
+    let mut taken = Duration::ZERO;
+    for done in (0..calls).step_by(texts.len()) {
+        let registers = &mut registers[..texts.len().min(calls - done)];
+        taken += time(|| {
+            for (text, register) in texts.iter().zip(&mut *registers) {
+                black_box(call(black_box(text), black_box(&mut register.area)));
+            }
+        });
+        registers.iter_mut().for_each(Register::put_back);
     }
+    taken
 }

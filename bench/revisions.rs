@@ -4,6 +4,21 @@ use crate::entry::{Ask, Count, Issue, LogIssue, LogReturn, Measure, Replay, Retu
 use crate::rows::{Call, Loan};
 use std::arch::global_asm;
 
+#[repr(C)]
+pub struct HolderAlone {
+    number: u32,
+    borrower: u32,
+}
+
+/// Reads two areas: who has a code. So a question was while places were in no order: it told no looks.
+pub type AskHolder = unsafe extern "C" fn(*const u8, usize, *const u8, usize) -> HolderAlone;
+
+pub fn ask_holder(entry: AskHolder, text: &[u8], area: &[u8]) -> (u32, u32) {
+    // The areas are as long as said.
+    let answer = unsafe { entry(text.as_ptr(), text.len(), area.as_ptr(), area.len()) };
+    (answer.number, answer.borrower)
+}
+
 #[derive(Clone, Copy)]
 pub enum Entry {
     Writer(Writer),
@@ -13,6 +28,7 @@ pub enum Entry {
     Issue(Issue),
     Return(Return),
     Ask(Ask),
+    AskHolder(AskHolder),
     Append(LogIssue, LogReturn),
     Replay(Replay),
 }
@@ -60,6 +76,7 @@ entries! {
     loans_issue: Issue,
     loans_return: Return,
     loans_ask: Ask,
+    loans_ask_holder: AskHolder,
     loans_log_issue: LogIssue,
     loans_log_return: LogReturn,
     loans_replay: Replay,
@@ -81,6 +98,11 @@ impl Entries {
         unsafe { &after_entries }
     }
 
+    /// Whether both keep the places of a register in the same order, or both in none: one that has an order tells looks.
+    pub fn order_alike() -> bool {
+        Entries::before().loans_ask.is_some() == Entries::after().loans_ask.is_some()
+    }
+
     pub fn of(&self, call: Call) -> Option<Entry> {
         match call {
             Call::Intake => self.intake.map(Entry::Writer),
@@ -95,7 +117,7 @@ impl Entries {
             Call::Differing => self.differing.map(Entry::Count),
             Call::Loan(Loan::Issue) => self.loans_issue.map(Entry::Issue),
             Call::Loan(Loan::Return) => self.loans_return.map(Entry::Return),
-            Call::Loan(Loan::Ask) => self.loans_ask.map(Entry::Ask),
+            Call::Loan(Loan::Ask) => self.loans_ask.map(Entry::Ask).or(self.loans_ask_holder.map(Entry::AskHolder)),
             Call::Append => Some(Entry::Append(self.loans_log_issue?, self.loans_log_return?)),
             Call::Replay => self.loans_replay.map(Entry::Replay),
         }

@@ -2,7 +2,7 @@
 
 use crate::logs::{self, Kind};
 use crate::registers::{self, Codes, Register, Wanted, PLACES};
-use crate::{inputs, RECORDS};
+use crate::{inputs, APPENDED, RECORDS};
 use std::fmt::{Display, Formatter, Result};
 
 #[derive(Clone, Copy)]
@@ -207,14 +207,13 @@ fn grouped(count: usize, name: &str) -> String {
     }
 }
 
-/// Logs of each count of records are replayed, and as many as the last of them appended.
 pub fn log() -> Vec<Row> {
     let mut rows = Vec::new();
-    let most = RECORDS[RECORDS.len() - 1];
     for (name, kinds) in
         [("issue", &[Kind::Issue][..]), ("return", &[Kind::Return]), ("record", &[Kind::Issue, Kind::Return])]
     {
-        rows.push(Row { records: most, ..row(Call::Append, grouped(most, name), vec![logs::listed(most, kinds)]) });
+        let inputs = vec![logs::listed(APPENDED, kinds)];
+        rows.push(Row { records: APPENDED, ..row(Call::Append, grouped(APPENDED, name), inputs) });
     }
     for out in OUT_IN_REPLAY {
         for records in RECORDS {

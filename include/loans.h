@@ -12,8 +12,14 @@
  *   byte 43           zero
  *   bytes 44 to 47    the borrower, high byte first: any 32-bit number, 0 too
  *
- * A free place is 48 zeros. So an area of zeros is a fresh register, in which nothing is out. No
- * byte depends on the machine: a register may be kept in a file and read elsewhere.
+ * The used places come first, in rising order of their codes. Codes are compared byte by byte; the
+ * length byte takes no part in it. A free place is 48 zeros. So an area of zeros is a fresh
+ * register, in which nothing is out. No byte depends on the machine: a register may be kept in a
+ * file and read elsewhere.
+ *
+ * A register that version 0.4 or one before it has written is mostly in no order, and so 23: replay
+ * its log onto zeros. A machine that stops inside a change may leave a place half written, and a
+ * code twice or not at all. That is mostly 23 too, but it need not be: keep a copy, or the log.
  *
  * A code is out where it stands in a place. Texts that mean the same are one code, however they are
  * typed: what was issued by its separate units is out for a question that types the composite.
@@ -23,7 +29,9 @@
  *   - a length byte is not 0, and as many bytes behind it are not exactly one permitted unit or
  *     composite;
  *   - a fill byte behind a code, a byte 43, or any byte of a place of length 0 is not zero;
- *   - a code stands in two places.
+ *   - a used place is behind a free one;
+ *   - the codes of two used places, one right behind the other, do not rise: so also where a code
+ *     stands in two places.
  * No call turns a register into such an area. Every call on a register tests the whole area, a
  * question too: its time grows with the codes that are out.
  *
@@ -55,8 +63,9 @@
  * a log one without records.
  *   - Text is bytes and keeps them. It needs no NUL at its end. A code and a log that are read keep
  *     their bytes too.
- *   - The register is read and written in place. An issue or a return that is accepted changes the
- *     bytes of one place and no other.
+ *   - The register is read and written in place. An issue or a return that is accepted keeps the
+ *     bytes of every place before that of its code; from there on the used places move by one, up
+ *     for an issue and down for a return.
  *   - The writer changes the bytes of its record and no other, and reads none of the log.
  *   - A refusal changes no byte, and neither does a question. Of all calls loans_replay alone
  *     leaves changes with a refusal: the records before the one that stops it stay applied.
@@ -87,14 +96,19 @@ extern "C" {
 /* The longest record of a log in bytes: an issue of the longest code. */
 #define LOANS_LOG_RECORD_MOST 49
 
-/* ISCC_OK and the borrower, who may be 0; or a refusal and 0. */
+/*
+ * ISCC_OK, the borrower, who may be 0, and how many places the question looked at; or ISCC_NOT_OUT,
+ * 0, and how many places it looked at; or any other refusal, 0 and 0.
+ */
 typedef struct {
     uint32_t number;
     uint32_t borrower;
+    uint32_t looks;
 } loans_holder;
 
 /*
- * Issues the code of a typed text to a borrower. It takes the lowest place that is free.
+ * Issues the code of a typed text to a borrower. It makes room at its place in the order: the used
+ * places from there on move one up.
  *
  * Refusals: 2, 1, 3 to 14 of the text, as iscc_intake, but never 15; then 23; then 20 where the
  * code is out already, to this borrower or another; then 21 where LOANS_PLACES others are out.
@@ -103,8 +117,8 @@ uint32_t loans_issue(const uint8_t *text, size_t text_len, uint32_t borrower, ui
                      size_t area_len);
 
 /*
- * Takes the code of a typed text back, whoever has it. Its place is filled with zeros, and is free
- * for a later issue.
+ * Takes the code of a typed text back, whoever has it. It closes the gap: the used places behind it
+ * move one down, and the last place that was used is filled with zeros and free.
  *
  * Refusals: 2, 1, 3 to 14 of the text, as iscc_intake, but never 15; then 23; then 22 where the
  * code is not out.
@@ -112,7 +126,11 @@ uint32_t loans_issue(const uint8_t *text, size_t text_len, uint32_t borrower, ui
 uint32_t loans_return(const uint8_t *text, size_t text_len, uint8_t *area, size_t area_len);
 
 /*
- * Asks who has the code of a typed text.
+ * Asks who has the code of a typed text. It looks at the middle of the used places that remain: the
+ * first of them plus half their count, rounded down. Where another code stands there it goes on in
+ * the part before or behind, and it ends where the code is found or no place remains. The answer's
+ * `looks` tells how many places it looked at, on success and on 22: never more than 9. The test for
+ * 23 looks at every place and is not counted.
  *
  * Refusals: as loans_return.
  */

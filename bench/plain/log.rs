@@ -1,8 +1,8 @@
-//! The pending issues log: records of a tag, a length in two bytes and a body. A replay tests the register once, then goes
-//! over the records and changes one place for each.
+//! The pending issues log: records of a tag, a length in two bytes and a body. A replay tests the register once, then applies
+//! the records one by one, and keeps along how many places are used.
 
 use crate::doors::{Code, LONGEST_CODE};
-use crate::register::{is_code, places_in, put_back, put_out, Place};
+use crate::register::{is_code, Register};
 
 const ISSUE: u8 = 1;
 const RETURN: u8 = 2;
@@ -54,13 +54,13 @@ fn code_of(bytes: &[u8]) -> Result<Code, u32> {
     Ok(code)
 }
 
-fn apply(tag: u8, body: &[u8], places: &mut [Place]) -> Result<(), u32> {
+fn apply(tag: u8, body: &[u8], register: &mut Register) -> Result<(), u32> {
     match tag {
         ISSUE => {
             let (borrower, code) = body.split_first_chunk().ok_or(24u32)?;
-            put_out(places, &code_of(code)?, u32::from_be_bytes(*borrower))
+            register.put_out(&code_of(code)?, u32::from_be_bytes(*borrower))
         }
-        RETURN => put_back(places, &code_of(body)?),
+        RETURN => register.put_back(&code_of(body)?),
         _ => Err(24),
     }
 }
@@ -75,15 +75,15 @@ fn first_record(log: &[u8]) -> Option<(u8, &[u8], &[u8])> {
 /// The number, how it ended, and where the record starts that is torn or was refused.
 #[inline(never)]
 pub fn replay(log: &[u8], area: &mut [u8]) -> (u32, u32, usize) {
-    let places = match places_in(area) {
+    let mut register = match Register::of(area) {
         Err(number) => return (number, 0, 0),
-        Ok(places) => places,
+        Ok(register) => register,
     };
     let mut rest = log;
     while !rest.is_empty() {
         let offset = log.len() - rest.len();
         let Some((tag, body, behind)) = first_record(rest) else { return (0, TORN, offset) };
-        if let Err(number) = apply(tag, body, places) {
+        if let Err(number) = apply(tag, body, &mut register) {
             return (number, STOPPED, offset);
         }
         rest = behind;

@@ -1,7 +1,9 @@
-//! The register of loans. Every call tests the whole area before it reads or writes one place.
+//! The register of loans: used places first, in rising order of their codes. Every call tests the whole area before it reads or
+//! writes a place.
 
 use crate::doors::{code_of, Code, LONGEST_CODE};
 use crate::items;
+use std::cmp::Ordering;
 
 const PLACES: usize = 256;
 const PLACE: usize = 48;
@@ -9,87 +11,141 @@ const PLACE: usize = 48;
 const ZERO: usize = 1 + LONGEST_CODE;
 const BORROWER: usize = ZERO + 1;
 
-pub type Place = [u8; PLACE];
+type Place = [u8; PLACE];
+
+/// The places of a register, and how many of them are used.
+pub struct Register<'a> {
+    places: &'a mut [Place],
+    used: usize,
+}
 
 pub fn is_code(bytes: &[u8]) -> bool {
     items::read(bytes).is_ok_and(|item| item.used() == bytes.len())
 }
 
-fn is_place(place: &Place) -> bool {
-    match place[0] as usize {
-        0 => *place == [0; PLACE],
-        length @ 1..=LONGEST_CODE => {
-            let (code, rest) = place[1..=ZERO].split_at(length);
-            is_code(code) && rest.iter().fold(0, |all, byte| all | byte) == 0
+fn are_zeros(bytes: &[u8]) -> bool {
+    bytes.iter().fold(0, |all, byte| all | byte) == 0
+}
+
+/// With its fill: no code is the beginning of another, so that codes compare as without it, but in one known length.
+fn code_in(place: &Place) -> &[u8; LONGEST_CODE] {
+    place[1..].first_chunk().unwrap()
+}
+
+/// Whether a place that is not free holds a code.
+fn is_loan(place: &Place) -> bool {
+    let length = place[0] as usize;
+    length <= LONGEST_CODE && is_code(&place[1..=length]) && are_zeros(&place[1 + length..BORROWER])
+}
+
+/// Whether places are all zeros. No byte ends the loop, so that it goes many at a time.
+fn are_free(places: &[Place]) -> bool {
+    let mut all = [0; PLACE];
+    for place in places {
+        all.iter_mut().zip(place).for_each(|(all, byte)| *all |= byte);
+    }
+    all == [0; PLACE]
+}
+
+/// How many places are used, if each holds a code behind the one before it and all the others are free.
+fn count_used(places: &[Place]) -> Option<usize> {
+    let mut before = None;
+    for (count, place) in places.iter().enumerate() {
+        if place[0] == 0 {
+            return are_free(&places[count..]).then_some(count);
         }
-        _ => false,
+        if !is_loan(place) || before.is_some_and(|before| before >= code_in(place)) {
+            return None;
+        }
+        before = Some(code_in(place));
     }
+    Some(places.len())
 }
 
-/// Sorts the codes that are out: one that stands twice is then beside itself.
-fn all_distinct(places: &[Place]) -> bool {
-    let mut codes = [&[0; ZERO]; PLACES];
-    let mut count = 0;
-    for place in places.iter().filter(|place| place[0] != 0) {
-        codes[count] = place.first_chunk().unwrap();
-        count += 1;
-    }
-    let codes = &mut codes[..count];
-    codes.sort_unstable();
-    codes.windows(2).all(|pair| pair[0] != pair[1])
-}
-
-/// The places of an area that is a register, or 23.
-fn places_of(area: &[u8]) -> Result<&[Place], u32> {
+/// The used places of an area that is a register, or 23.
+fn used_in(area: &[u8]) -> Result<&[Place], u32> {
     let (places, rest) = area.as_chunks();
-    let holds = places.len() == PLACES && rest.is_empty() && places.iter().all(is_place) && all_distinct(places);
-    holds.then_some(places).ok_or(23)
-}
-
-/// The same for writing.
-pub fn places_in(area: &mut [u8]) -> Result<&mut [Place], u32> {
-    places_of(area)?;
-    Ok(area.as_chunks_mut().0)
-}
-
-fn place_of(places: &[Place], code: &Code) -> Option<usize> {
-    places.iter().position(|place| place[0] as usize == code.length && place[1..ZERO] == code.bytes)
-}
-
-/// The code goes to the borrower: 20, 21.
-pub fn put_out(places: &mut [Place], code: &Code, borrower: u32) -> Result<(), u32> {
-    if place_of(places, code).is_some() {
-        return Err(20);
+    if places.len() != PLACES || !rest.is_empty() {
+        return Err(23);
     }
-    let free = places.iter_mut().find(|place| place[0] == 0).ok_or(21u32)?;
-    free[0] = code.length as u8;
-    free[1..ZERO].copy_from_slice(&code.bytes);
-    free[BORROWER..].copy_from_slice(&borrower.to_be_bytes());
-    Ok(())
+    count_used(places).map(|count| &places[..count]).ok_or(23)
 }
 
-/// The code comes back: 22.
-pub fn put_back(places: &mut [Place], code: &Code) -> Result<(), u32> {
-    let at = place_of(places, code).ok_or(22u32)?;
-    places[at] = [0; PLACE];
-    Ok(())
+/// Halves the used places: where the code stands, or else where it would, and how many of them were looked at.
+fn search(used: &[Place], code: &Code) -> (Result<usize, usize>, u32) {
+    let (mut first, mut count, mut looks) = (0, used.len(), 0);
+    while count > 0 {
+        let half = count / 2;
+        looks += 1;
+        match code.bytes.cmp(code_in(&used[first + half])) {
+            Ordering::Equal => return (Ok(first + half), looks),
+            Ordering::Less => count = half,
+            Ordering::Greater => {
+                first += half + 1;
+                count -= half + 1;
+            }
+        }
+    }
+    (Err(first), looks)
+}
+
+fn place_of(code: &Code, borrower: u32) -> Place {
+    let mut place = [0; PLACE];
+    place[0] = code.length as u8;
+    place[1..ZERO].copy_from_slice(&code.bytes);
+    place[BORROWER..].copy_from_slice(&borrower.to_be_bytes());
+    place
+}
+
+impl Register<'_> {
+    /// Of an area that is a register, or 23.
+    pub fn of(area: &mut [u8]) -> Result<Register<'_>, u32> {
+        let used = used_in(area)?.len();
+        Ok(Register { places: area.as_chunks_mut().0, used })
+    }
+
+    fn find(&self, code: &Code) -> Result<usize, usize> {
+        search(&self.places[..self.used], code).0
+    }
+
+    /// The code goes to the borrower, and those behind it one place up: 20, 21.
+    pub fn put_out(&mut self, code: &Code, borrower: u32) -> Result<(), u32> {
+        let Err(at) = self.find(code) else { return Err(20) };
+        if self.used == PLACES {
+            return Err(21);
+        }
+        self.places.copy_within(at..self.used, at + 1);
+        self.places[at] = place_of(code, borrower);
+        self.used += 1;
+        Ok(())
+    }
+
+    /// The code comes back, and those behind it go one place down: 22.
+    pub fn put_back(&mut self, code: &Code) -> Result<(), u32> {
+        let Ok(at) = self.find(code) else { return Err(22) };
+        self.places.copy_within(at + 1..self.used, at);
+        self.used -= 1;
+        self.places[self.used] = [0; PLACE];
+        Ok(())
+    }
 }
 
 fn issued(text: &[u8], borrower: u32, area: &mut [u8]) -> Result<(), u32> {
     let code = code_of(text)?;
-    put_out(places_in(area)?, &code, borrower)
+    Register::of(area)?.put_out(&code, borrower)
 }
 
 fn taken_back(text: &[u8], area: &mut [u8]) -> Result<(), u32> {
     let code = code_of(text)?;
-    put_back(places_in(area)?, &code)
+    Register::of(area)?.put_back(&code)
 }
 
-fn asked(text: &[u8], area: &[u8]) -> Result<u32, u32> {
+/// Who has the code, if it is out, and how many places were looked at.
+fn asked(text: &[u8], area: &[u8]) -> Result<(Option<u32>, u32), u32> {
     let code = code_of(text)?;
-    let places = places_of(area)?;
-    let at = place_of(places, &code).ok_or(22u32)?;
-    Ok(u32::from_be_bytes(*places[at].last_chunk().unwrap()))
+    let used = used_in(area)?;
+    let (place, looks) = search(used, &code);
+    Ok((place.ok().map(|at| u32::from_be_bytes(*used[at].last_chunk().unwrap())), looks))
 }
 
 #[inline(never)]
@@ -102,7 +158,12 @@ pub fn take_back(text: &[u8], area: &mut [u8]) -> u32 {
     taken_back(text, area).err().unwrap_or(0)
 }
 
+/// The number, the borrower, the looks.
 #[inline(never)]
-pub fn ask(text: &[u8], area: &[u8]) -> (u32, u32) {
-    asked(text, area).map_or_else(|number| (number, 0), |borrower| (0, borrower))
+pub fn ask(text: &[u8], area: &[u8]) -> (u32, u32, u32) {
+    match asked(text, area) {
+        Err(number) => (number, 0, 0),
+        Ok((None, looks)) => (22, 0, looks),
+        Ok((Some(borrower), looks)) => (0, borrower, looks),
+    }
 }

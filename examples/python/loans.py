@@ -5,6 +5,7 @@
     register = loans.Register()
     register.issue("GAAW2PRCRS5LNVZV-IAAUVACQKXE3V44W", 1204)
     register.ask("iscc:iaauvacqkxe3v44w-gaaw2prcrs5lnvzv")      # 1204
+    register.find("iscc:iaauvacqkxe3v44w-gaaw2prcrs5lnvzv")     # Found(borrower=1204, looks=1)
     register.take_back("ISCC:KUAG2PRCRS5LNVZVJKAFAVOJXLZZM")
 
 A counter writes a record for each change that its register accepts; another hall replays the log:
@@ -28,20 +29,25 @@ import functools
 import mmap
 import threading
 from collections.abc import Callable
-from typing import Any, Union
+from typing import Any, NamedTuple, Union
 
 import iscc
 
-__all__ = ["AREA", "RECORD_MOST", "Area", "Log", "Register", "Stopped"]
+__all__ = ["AREA", "RECORD_MOST", "Area", "Found", "Log", "Register", "Stopped"]
 
 AREA = 12288  # the length of a register in bytes
 RECORD_MOST = 49  # the longest record of a log in bytes
 _TORN, _STOPPED = 2, 3  # how a replay can end, in loans.h
+_OLDEST = 0x0500  # version 0.5.0: before it a question did not tell its looks
 Area = Union[bytearray, memoryview, mmap.mmap]
 
 
 class _Holder(ctypes.Structure):
-    _fields_ = [("number", ctypes.c_uint32), ("borrower", ctypes.c_uint32)]
+    _fields_ = [
+        ("number", ctypes.c_uint32),
+        ("borrower", ctypes.c_uint32),
+        ("looks", ctypes.c_uint32),
+    ]
 
 
 class _Replayed(ctypes.Structure):
@@ -50,6 +56,13 @@ class _Replayed(ctypes.Structure):
         ("end", ctypes.c_uint32),
         ("offset", ctypes.c_size_t),
     ]
+
+
+class Found(NamedTuple):
+    """Who has a code, None where it is not out, and at how many places the question looked."""
+
+    borrower: int | None
+    looks: int
 
 
 class Stopped(iscc.Refused):
@@ -88,6 +101,9 @@ def _library() -> ctypes.CDLL:
     except AttributeError as error:
         said = f"{library._name} has no loans register or no log: {error}"
         raise iscc.WrongLibrary(said) from None
+    if library.iscc_version() < _OLDEST:
+        said = f"{library._name} has version {iscc.version()}; this module needs 0.5.0 or later"
+        raise iscc.WrongLibrary(said)
     return library
 
 
@@ -147,9 +163,17 @@ class Register:
 
     def ask(self, text: iscc.Text) -> int:
         """The borrower who has a code. Refused: intake's numbers, 23, 22 (not out)."""
-        holder: _Holder = self._call(_library().loans_ask, iscc._text_bytes(text))
+        holder = self._ask(text)
         _check_number(holder.number)
         return holder.borrower
+
+    def find(self, text: iscc.Text) -> Found:
+        """As ask, with the looks, 0 to 9, and no refusal with 22: then the borrower is None."""
+        holder = self._ask(text)
+        if holder.number == iscc.Refusal.NOT_OUT:
+            return Found(None, holder.looks)
+        _check_number(holder.number)
+        return Found(holder.borrower, holder.looks)
 
     def replay(self, log: iscc.Bytes) -> int | None:
         """Applies the records of a log, from the left.
@@ -164,6 +188,10 @@ class Register:
             raise Stopped(answer.number, answer.offset)
         _check_number(answer.number)
         return answer.offset if answer.end == _TORN else None
+
+    def _ask(self, text: iscc.Text) -> _Holder:
+        holder: _Holder = self._call(_library().loans_ask, iscc._text_bytes(text))
+        return holder
 
     def _call(self, call: Callable[..., Any], data: bytes, *more: int) -> Any:
         # The lock is needed, since ctypes lets other threads run during a call.

@@ -37,6 +37,18 @@ def label(index: int) -> str:
     return iscc.text(bytes.fromhex("3001") + index.to_bytes(8, "big"))
 
 
+def looks_for(index: int, out: list[int]) -> int:
+    """The looks of a question about label(index) where the labels of `out`, in order, are out."""
+    looks = 0
+    while out:
+        middle = len(out) // 2
+        looks += 1
+        if out[middle] == index:
+            break
+        out = out[:middle] if index < out[middle] else out[middle + 1 :]
+    return looks
+
+
 def full() -> loans.Register:
     """A register in which label(i) is out to borrower i, in every place."""
     register = loans.Register()
@@ -52,6 +64,12 @@ class Header(unittest.TestCase):
         found = re.search(r"^#define LOANS_REGISTER_AREA (\d+)$", HEADER, re.MULTILINE)
         assert found
         self.assertEqual(loans.AREA, int(found[1]))
+
+    def test_holder(self) -> None:
+        found = re.search(r"^typedef struct {([^}]+)} loans_holder;$", HEADER, re.MULTILINE)
+        assert found
+        names = re.findall(r"^    uint32_t (\w+);$", found[1], re.MULTILINE)
+        self.assertEqual(names, [field[0] for field in loans._Holder._fields_])
 
     def test_star(self) -> None:
         given: dict[str, object] = {}
@@ -80,8 +98,10 @@ class Calls(unittest.TestCase):
             register.issue(TYPED, borrower)
             for text in (TYPED, TYPED.upper().encode(), WRITTEN):
                 self.assertEqual(register.ask(text), borrower)
+                self.assertEqual(register.find(text), (borrower, 1))
                 self.refused(register, 20, register.issue, text, 7)
             register.take_back(WRITTEN)
+            self.assertEqual(register.find(TYPED), loans.Found(borrower=None, looks=0))
             self.refused(register, 22, register.ask, TYPED)
             self.refused(register, 22, register.take_back, TYPED)
             self.assertEqual(bytes(register.area), bytes(loans.AREA))
@@ -92,6 +112,29 @@ class Calls(unittest.TestCase):
         code = iscc.code(TYPED)
         place = bytes([len(code)]) + code.ljust(43, b"\0") + bytes([1, 2, 3, 4])
         self.assertEqual(bytes(register.area), place.ljust(loans.AREA, b"\0"))
+
+    def test_order(self) -> None:
+        register = loans.Register()
+        places = {}
+        for index in (3, 1, 4, 2):
+            register.issue(label(index), index)
+            code = iscc.code(label(index))
+            places[index] = bytes([len(code)]) + code.ljust(43, b"\0") + index.to_bytes(4, "big")
+            due = b"".join(places[out] for out in sorted(places))
+            self.assertEqual(bytes(register.area), due.ljust(loans.AREA, b"\0"))
+        register.take_back(label(2))
+        due = places[1] + places[3] + places[4]
+        self.assertEqual(bytes(register.area), due.ljust(loans.AREA, b"\0"))
+
+    def test_looks(self) -> None:
+        for count in (0, 1, 2, 3, 16, 255, 256):
+            register, out = loans.Register(), list(range(1, 2 * count, 2))
+            for index in out:
+                register.issue(label(index), index)
+            for index in range(2 * count + 1):
+                due = loans.Found(index if index % 2 else None, looks_for(index, out))
+                self.assertEqual(register.find(label(index)), due)
+                self.assertLessEqual(due.looks, 9)
 
     def test_full(self) -> None:
         register = full()
@@ -108,15 +151,20 @@ class Calls(unittest.TestCase):
             self.refused(register, number, register.issue, text, 1)
             self.refused(register, number, register.take_back, text)
             self.refused(register, number, register.ask, text)
+            self.refused(register, number, register.find, text)
 
     def test_not_a_register(self) -> None:
-        damaged = full().area
+        damaged, exchanged, hole = full().area, full().area, full().area
         damaged[0] = 43
-        for area in (bytearray(), bytearray(loans.AREA - 1), bytearray(loans.AREA + 1), damaged):
+        exchanged[:96] = exchanged[48:96] + exchanged[:48]
+        hole[:48] = bytes(48)
+        lengths = (bytearray(), bytearray(loans.AREA - 1), bytearray(loans.AREA + 1))
+        for area in (*lengths, damaged, exchanged, hole):
             register = loans.Register(area)
             self.refused(register, 23, register.issue, TYPED, 1)
             self.refused(register, 23, register.take_back, TYPED)
             self.refused(register, 23, register.ask, TYPED)
+            self.refused(register, 23, register.find, TYPED)
 
 
 class Areas(unittest.TestCase):
@@ -332,21 +380,30 @@ class Threads(unittest.TestCase):
 
 
 class Library(unittest.TestCase):
-    """A library of an older version, which has no register."""
+    """A library of an older version, which has no register, or one that tells no looks."""
 
-    def test_without_register(self) -> None:
-        header = (TOP / "include" / "iscc.h").read_text("ascii")
-        names = set(re.findall(r"[ *](iscc_[a-z_]+)\(", header)) - {"iscc_version"}
+    def older(self, minor: int, headers: str) -> tuple[str, str]:
+        """The path of a library with the calls of these headers, and what a question says of it."""
+        names = set(re.findall(r"[ *]((?:iscc|loans)_[a-z_]+)\(", headers)) - {"iscc_version"}
         lines = [f"int {name};" for name in sorted(names)]
-        lines.append("unsigned iscc_version(void) { return 256; }\n")
+        lines.append(f"unsigned iscc_version(void) {{ return {minor * 256}; }}\n")
         with tempfile.TemporaryDirectory(dir=TOP / "target") as folder:
             source, older = pathlib.Path(folder, "older.c"), str(pathlib.Path(folder, "older.so"))
             source.write_text("\n".join(lines))
             subprocess.run(["gcc", "-shared", "-fPIC", str(source), "-o", older], check=True)
             code = "import loans; loans.Register().ask('GAA')"
             said = test_iscc.in_a_process(code, HERE, older)
-        self.assertIn(f"WrongLibrary: {older} has no loans register or no log", said)
         self.assertEqual(said.count("Traceback"), 1, said)
+        return older, said
+
+    def test_without_register(self) -> None:
+        older, said = self.older(1, test_iscc.HEADER)
+        self.assertIn(f"WrongLibrary: {older} has no loans register or no log", said)
+
+    def test_without_looks(self) -> None:
+        older, said = self.older(4, test_iscc.HEADER + HEADER)
+        due = f"WrongLibrary: {older} has version 0.4.0; this module needs 0.5.0 or later"
+        self.assertIn(due, said)
 
 
 if __name__ == "__main__":

@@ -83,7 +83,10 @@ static void check_register(void) {
     const uint8_t *text = (const uint8_t *)"GAAAAAAAAA";
     expect(loans_issue(text, 10, 5, area, sizeof area) == ISCC_OK, "not issued", 5);
     expect(loans_ask(text, 10, area, sizeof area).borrower == 5, "another borrower", 5);
+    expect(loans_ask(text, 10, area, sizeof area).looks == 1, "other looks", 1);
     expect(loans_return(text, 10, area, sizeof area) == ISCC_OK, "not taken back", 5);
+    expect(loans_ask(text, 10, area, sizeof area).number == ISCC_NOT_OUT, "still out", 5);
+    expect(loans_ask(text, 10, area, sizeof area).looks == 0, "other looks", 0);
 }
 
 static void check_log(void) {

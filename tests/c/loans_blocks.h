@@ -46,10 +46,46 @@ static void put_place(uint8_t *area, size_t place, const uint8_t *code, uint8_t 
     for (int i = 0; i < 4; i++) bytes[44 + i] = (uint8_t)(borrower >> (24 - 8 * i));
 }
 
-/* The bare call; an issue and a return tell no borrower. */
+/* Whether a code comes before the code of a place, is the same or comes behind it: below 0, 0 or above 0. */
+static int compared(const uint8_t *code, size_t length, const uint8_t *place) {
+    size_t shorter = length < place[0] ? length : place[0];
+    int order = memcmp(code, place + 1, shorter);
+    return order != 0 ? order : (int)length - (int)place[0];
+}
+
+/* How many places a question about a code has to look at: halved once more here. */
+static uint32_t looks_for(const uint8_t *area, const uint8_t *code, size_t length) {
+    size_t first = 0, count = 0;
+    uint32_t looks = 0;
+    while (count < PLACES && area[count * PLACE] != 0) count++;
+    while (count > 0) {
+        size_t before = count / 2, middle = first + before;
+        int order = compared(code, length, area + middle * PLACE);
+        looks++;
+        if (order == 0) break;
+        if (order > 0) first = middle + 1;
+        count = order < 0 ? before : count - before - 1;
+    }
+    return looks;
+}
+
+/* The same for a code as it is typed. */
+static uint32_t looks_for_typed(const uint8_t *area, const char *typed) {
+    uint8_t code[ISCC_CODE_AREA];
+    iscc_written written = iscc_code((const uint8_t *)typed, strlen(typed), code, sizeof code);
+    expect_same("number of code", written.number, ISCC_OK, typed);
+    return looks_for(area, code, written.length);
+}
+
+/* The answer that has a number alone: all but success and 22 of a question. */
+static loans_holder only(uint32_t number) {
+    return (loans_holder){number, 0, 0};
+}
+
+/* The bare call; an issue and a return tell no borrower and no looks. */
 static loans_holder answer_of(loans_call call, const uint8_t *text, size_t text_len, uint32_t borrower, uint8_t *area,
                               size_t area_len) {
-    loans_holder answer = {0, 0};
+    loans_holder answer = only(0);
     if (call == ISSUE) answer.number = loans_issue(text, text_len, borrower, area, area_len);
     if (call == RETURN) answer.number = loans_return(text, text_len, area, area_len);
     if (call == ASK) answer = loans_ask(text, text_len, area, area_len);
@@ -64,6 +100,7 @@ static void call_leaves(loans_call call, const void *text, size_t text_len, uint
     loans_holder answer = answer_of(call, typed, text_len, borrower, area, area_len);
     expect_same(numbers[call], answer.number, due.number, of);
     expect_same("borrower", answer.borrower, due.borrower, of);
+    expect_same("looks", answer.looks, due.looks, of);
     if (area_len > 0) expect(memcmp(area, after, area_len) == 0, "other bytes in the register", of);
     if (text_len > 0) expect(memcmp(typed, text, text_len) == 0, "the text was changed", of);
     free(typed);
@@ -77,39 +114,52 @@ static void call_keeps(loans_call call, const void *text, size_t text_len, uint8
     free(before);
 }
 
-/* An issue that is accepted: it changes this place, and no other byte. */
+/* The places from this one on move one up, and it holds the loan; those behind all used ones are zeros. */
+static void make_room(uint8_t *area, size_t place, const uint8_t *code, uint8_t length, uint32_t borrower) {
+    memmove(area + (place + 1) * PLACE, area + place * PLACE, (PLACES - 1 - place) * PLACE);
+    put_place(area, place, code, length, borrower);
+}
+
+/* The places behind this one move one down, and zeros come behind them. */
+static void close_gap(uint8_t *area, size_t place) {
+    memmove(area + place * PLACE, area + (place + 1) * PLACE, (PLACES - 1 - place) * PLACE);
+    memset(area + (PLACES - 1) * PLACE, 0, PLACE);
+}
+
+/* An issue that is accepted: this is its place in the order. */
 static void issue_takes(uint8_t *area, size_t place, const char *typed, uint32_t borrower, const uint8_t *code, uint8_t length) {
     uint8_t *after = copy_of(area, REGISTER);
-    expect(all_are(area + place * PLACE, PLACE, 0), "the place is not free before", typed);
-    put_place(after, place, code, length, borrower);
-    call_leaves(ISSUE, typed, strlen(typed), borrower, area, REGISTER, (loans_holder){ISCC_OK, 0}, after, typed);
+    make_room(after, place, code, length, borrower);
+    call_leaves(ISSUE, typed, strlen(typed), borrower, area, REGISTER, only(ISCC_OK), after, typed);
     free(after);
 }
 
-static void return_frees(uint8_t *area, size_t place, const char *typed) {
+static void return_closes(uint8_t *area, size_t place, const char *typed) {
     uint8_t *after = copy_of(area, REGISTER);
-    memset(after + place * PLACE, 0, PLACE);
-    call_leaves(RETURN, typed, strlen(typed), 0, area, REGISTER, (loans_holder){ISCC_OK, 0}, after, typed);
+    close_gap(after, place);
+    call_leaves(RETURN, typed, strlen(typed), 0, area, REGISTER, only(ISCC_OK), after, typed);
     free(after);
 }
 
 static void issue_refused(uint8_t *area, const char *typed, uint32_t number) {
-    call_keeps(ISSUE, typed, strlen(typed), area, REGISTER, (loans_holder){number, 0}, typed);
+    call_keeps(ISSUE, typed, strlen(typed), area, REGISTER, only(number), typed);
 }
 
 static void has(uint8_t *area, const char *typed, uint32_t borrower) {
-    call_keeps(ASK, typed, strlen(typed), area, REGISTER, (loans_holder){ISCC_OK, borrower}, typed);
+    loans_holder due = {ISCC_OK, borrower, looks_for_typed(area, typed)};
+    call_keeps(ASK, typed, strlen(typed), area, REGISTER, due, typed);
 }
 
 static void not_out(uint8_t *area, const char *typed) {
-    call_keeps(RETURN, typed, strlen(typed), area, REGISTER, (loans_holder){ISCC_NOT_OUT, 0}, typed);
-    call_keeps(ASK, typed, strlen(typed), area, REGISTER, (loans_holder){ISCC_NOT_OUT, 0}, typed);
+    loans_holder due = {ISCC_NOT_OUT, 0, looks_for_typed(area, typed)};
+    call_keeps(RETURN, typed, strlen(typed), area, REGISTER, only(ISCC_NOT_OUT), typed);
+    call_keeps(ASK, typed, strlen(typed), area, REGISTER, due, typed);
 }
 
 /* All three calls refuse with this number. */
 static void all_refuse(const void *text, size_t text_len, uint8_t *area, size_t area_len, uint32_t number, const char *of) {
     for (loans_call call = ISSUE; call <= ASK; call++)
-        call_keeps(call, text, text_len, area, area_len, (loans_holder){number, 0}, of);
+        call_keeps(call, text, text_len, area, area_len, only(number), of);
 }
 
 /* One loan from its issue to its return, each time typed another way. */
@@ -125,25 +175,35 @@ static void loans_one_code(void) {
         issue_refused(area, UNITS, ISCC_ALREADY_OUT);
         issue_refused(area, SMALL_UNITS, ISCC_ALREADY_OUT);
         not_out(area, "GAAW2PRCRS5LNVZV"); /* a unit of it is another code */
-        return_frees(area, 0, SMALL_UNITS);
+        return_closes(area, 0, SMALL_UNITS);
         not_out(area, UNITS);
     }
     free(area);
 }
 
-/* The whole register, byte for byte: the lowest place that is free, codes of the least and the greatest length. */
+/* The whole register, byte for byte: codes of the least and the greatest length go in before all others, between two and
+ * behind all, and come back from there. */
 static void loans_places(void) {
     uint8_t *area = fresh_register();
+    issue_takes(area, 0, COMPOSITE, 0x01000000, composite_code, sizeof composite_code);
     issue_takes(area, 0, SHORTEST, 0x00010000, shortest_code, sizeof shortest_code);
     issue_takes(area, 1, LONGEST, 0x00000100, longest_code, sizeof longest_code);
-    issue_takes(area, 2, COMPOSITE, 0x01000000, composite_code, sizeof composite_code);
-    return_frees(area, 1, LONGEST);
+    issue_takes(area, 3, WIDE, 5, wide_code, sizeof wide_code);
+    has(area, SHORTEST, 0x00010000);
+    has(area, LONGEST, 0x00000100);
+    has(area, UNITS, 0x01000000);
+    return_closes(area, 1, LONGEST);
     has(area, SHORTEST, 0x00010000);
     has(area, UNITS, 0x01000000);
-    return_frees(area, 0, SHORTEST);
+    return_closes(area, 0, SHORTEST);
     issue_takes(area, 0, LONGEST, 7, longest_code, sizeof longest_code);
-    issue_takes(area, 1, SHORTEST, 8, shortest_code, sizeof shortest_code);
+    return_closes(area, 2, WIDE);
+    issue_takes(area, 0, SHORTEST, 8, shortest_code, sizeof shortest_code);
     has(area, LONGEST, 7);
+    return_closes(area, 2, COMPOSITE);
+    return_closes(area, 0, SHORTEST);
+    return_closes(area, 0, LONGEST);
+    expect(all_are(area, REGISTER, 0), "not empty again", "all came back");
     free(area);
 }
 
@@ -164,21 +224,92 @@ static void issue_row(uint8_t *area, size_t index, size_t place) {
     issue_takes(area, place, text, (uint32_t)index, code, sizeof code);
 }
 
-/* All places, one code more, and room again once a code is back. */
+/* All places, one code more, and room again once a code is back: taken up before all others, in its old place and behind all. */
 static void loans_full(void) {
     const size_t back[] = {0, 100, PLACES - 1};
+    uint8_t *full = fresh_register(), code[10];
+    char text[ISCC_TEXT_AREA + 1];
+    for (size_t i = 0; i < PLACES; i++) issue_row(full, i, i);
+    for (size_t i = 0; i < sizeof back / sizeof *back; i++) {
+        for (int j = 0; j < 3; j++) {
+            uint8_t *area = copy_of(full, REGISTER);
+            issue_refused(area, COMPOSITE, ISCC_ALL_OUT);
+            issue_refused(area, SHORTEST, ISCC_ALL_OUT);
+            not_out(area, COMPOSITE);
+            not_out(area, SHORTEST);
+            code_of_row(back[i], code, text);
+            issue_refused(area, text, ISCC_ALREADY_OUT);
+            has(area, text, (uint32_t)back[i]);
+            return_closes(area, back[i], text);
+            not_out(area, text);
+            if (j == 0) issue_takes(area, 0, SHORTEST, 9, shortest_code, sizeof shortest_code);
+            if (j == 1) issue_row(area, back[i], back[i]);
+            if (j == 2) issue_row(area, PLACES, PLACES - 1);
+            issue_refused(area, COMPOSITE, ISCC_ALL_OUT);
+            free(area);
+        }
+    }
+    free(full);
+}
+
+/* A row issued from its end, and the odd ones before the even ones: every issue moves places, and the bytes are those of the
+ * row issued from its start. */
+static void loans_any_order(void) {
+    uint8_t *rising = fresh_register(), *falling = fresh_register(), *mixed = fresh_register();
+    for (size_t i = 0; i < PLACES; i++) issue_row(rising, i, i);
+    for (size_t i = PLACES; i-- > 0;) issue_row(falling, i, 0);
+    for (size_t i = 0; i < PLACES / 2; i++) issue_row(mixed, 2 * i + 1, i);
+    for (size_t i = 0; i < PLACES / 2; i++) issue_row(mixed, 2 * i, 2 * i);
+    expect(memcmp(rising, falling, REGISTER) == 0, "another register", "a row from its end");
+    expect(memcmp(rising, mixed, REGISTER) == 0, "another register", "odd ones first");
+    free(rising);
+    free(falling);
+    free(mixed);
+}
+
+/* A register of so many codes: every code that is out is asked for, and such as come before, between and behind them. Each
+ * answer has the looks of the halving above, and the most of them are so many. */
+static void looks_in(size_t count, uint32_t most) {
     uint8_t *area = fresh_register(), code[10];
     char text[ISCC_TEXT_AREA + 1];
-    for (size_t i = 0; i < PLACES; i++) issue_row(area, i, i);
-    for (size_t i = 0; i < sizeof back / sizeof *back; i++) {
-        issue_refused(area, COMPOSITE, ISCC_ALL_OUT);
-        not_out(area, COMPOSITE);
-        code_of_row(back[i], code, text);
-        issue_refused(area, text, ISCC_ALREADY_OUT);
-        has(area, text, (uint32_t)back[i]);
-        return_frees(area, back[i], text);
-        not_out(area, text);
-        issue_row(area, PLACES + i, back[i]);
+    uint32_t seen = 0;
+    for (size_t i = 0; i < count; i++) {
+        code_of_row(2 * i + 1, code, text);
+        put_place(area, i, code, sizeof code, (uint32_t)i);
+    }
+    for (size_t i = 0; i <= 2 * count; i++) {
+        code_of_row(i, code, text);
+        if (i % 2 == 1) has(area, text, (uint32_t)(i / 2));
+        else not_out(area, text);
+        uint32_t looks = looks_for(area, code, sizeof code);
+        if (looks > seen) seen = looks;
+    }
+    expect_same("most looks", seen, most, "a row of codes");
+    free(area);
+}
+
+/* Nobody needs more than 9. */
+static void loans_looks(void) {
+    looks_in(0, 0);
+    looks_in(1, 1);
+    looks_in(2, 2);
+    looks_in(3, 2);
+    looks_in(16, 5);
+    looks_in(255, 8);
+    looks_in(256, 9);
+}
+
+/* By hand, in a register of four: the middle is place 2, then 1 or 3, then 0. */
+static void loans_four(void) {
+    const uint32_t found[] = {3, 2, 1, 2}, between[] = {3, 3, 2, 2, 2};
+    uint8_t *area = fresh_register(), code[10];
+    char text[ISCC_TEXT_AREA + 1];
+    for (size_t i = 0; i < 4; i++) issue_row(area, 2 * i + 1, i);
+    for (size_t i = 0; i < 9; i++) {
+        code_of_row(i, code, text);
+        loans_holder due = i % 2 == 1 ? (loans_holder){ISCC_OK, (uint32_t)i, found[i / 2]}
+                                      : (loans_holder){ISCC_NOT_OUT, 0, between[i / 2]};
+        call_keeps(ASK, text, strlen(text), area, REGISTER, due, text);
     }
     free(area);
 }
@@ -191,7 +322,8 @@ static void text_of(const uint8_t *code, size_t length, char text[ISCC_TEXT_AREA
 }
 
 /* Two codes of the same bytes in another order are two codes: four of one body are exchanged with four of the other, at the
- * same distance from a multiple of four in the place, so that no sum over words of four bytes tells them apart. */
+ * same distance from a multiple of four in the place, so that no sum over words of four bytes tells them apart. The first byte
+ * that differs is 3e in the one and 80 in the other: bytes have no sign. */
 static void loans_alike(void) {
     uint8_t *area = fresh_register(), other_code[sizeof composite_code];
     char other[ISCC_TEXT_AREA + 1];
@@ -205,10 +337,10 @@ static void loans_alike(void) {
     has(area, COMPOSITE, 7);
     has(area, other, 8);
     issue_refused(area, other, ISCC_ALREADY_OUT);
-    put_place(area, 255, other_code, sizeof other_code, 9);
-    call_keeps(ASK, COMPOSITE, strlen(COMPOSITE), area, REGISTER, (loans_holder){ISCC_NOT_REGISTER, 0}, "a code twice");
-    put_place(area, 255, shortest_code, sizeof shortest_code, 9);
-    return_frees(area, 0, COMPOSITE);
+    put_place(area, 2, other_code, sizeof other_code, 9);
+    call_keeps(ASK, COMPOSITE, strlen(COMPOSITE), area, REGISTER, only(ISCC_NOT_REGISTER), "a code twice");
+    put_place(area, 2, wide_code, sizeof wide_code, 9);
+    return_closes(area, 0, COMPOSITE);
     has(area, other, 8);
     not_out(area, COMPOSITE);
     free(area);
@@ -232,10 +364,10 @@ static void loans_wide(void) {
     issue_refused(area, WIDE, ISCC_ALREADY_OUT);
     not_out(area, four);
     not_out(area, narrow);
-    issue_takes(area, 1, four, 5, four_code, sizeof four_code);
-    issue_takes(area, 2, narrow, 6, short_code, sizeof short_code);
+    issue_takes(area, 0, four, 5, four_code, sizeof four_code);
+    issue_takes(area, 1, narrow, 6, short_code, sizeof short_code);
     has(area, SMALL_WIDE, 0x01020304);
-    return_frees(area, 0, WIDE);
+    return_closes(area, 2, WIDE);
     not_out(area, SMALL_WIDE);
     has(area, four, 5);
     has(area, narrow, 6);
@@ -292,11 +424,11 @@ static void loans_lengths(void) {
     all_refuse(NULL, 0, NULL, 0, ISCC_EMPTY_TEXT, "null text and register");
 }
 
-/* A register with the composite in place 0, the longest code in place 1, and nothing else. */
+/* A register with the longest code in place 0, the composite in place 1, and nothing else. */
 static uint8_t *two_out(void) {
     uint8_t *area = fresh_register();
-    put_place(area, 0, composite_code, sizeof composite_code, 1);
-    put_place(area, 1, longest_code, sizeof longest_code, 2);
+    put_place(area, 0, longest_code, sizeof longest_code, 2);
+    put_place(area, 1, composite_code, sizeof composite_code, 1);
     return area;
 }
 
@@ -313,17 +445,19 @@ static void loans_damaged(void) {
         uint8_t byte;
         const char *what;
     } damages[] = {
-        {0, 0, "length 0 before a code"},
-        {0, 17, "length one less"},
-        {0, 19, "length one more"},
-        {0, 43, "length 43"},
-        {0, 255, "length 255"},
-        {1, 0x75, "main type 7"},
-        {2, 0x01, "another composite"},
-        {19, 1, "first fill byte"},
-        {42, 1, "last fill byte"},
-        {43, 1, "zero byte"},
-        {PLACE + 43, 1, "zero byte right behind a code"},
+        {PLACE, 0, "length 0 before a code"},
+        {PLACE, 17, "length one less"},
+        {PLACE, 19, "length one more"},
+        {PLACE, 43, "length 43"},
+        {PLACE, 255, "length 255"},
+        {PLACE + 1, 0x75, "main type 7"},
+        {PLACE + 2, 0x01, "another composite"},
+        {PLACE + 19, 1, "first fill byte"},
+        {PLACE + 42, 1, "last fill byte"},
+        {PLACE + 43, 1, "zero byte"},
+        {0, 43, "length 43 before 42 bytes of code"},
+        {0, 42 + 64, "length 106 before 42 bytes of code"},
+        {43, 1, "zero byte right behind a code"},
         {2 * PLACE, 1, "cut header"},
         {2 * PLACE + 1, 1, "first byte behind length 0"},
         {2 * PLACE + 43, 1, "zero byte of a free place"},
@@ -339,38 +473,87 @@ static void loans_damaged(void) {
     }
 }
 
-/* Places that are well formed and make no register: a list, what is nearly a wide composite, and a code twice. */
+/* Places that are well formed, in order, and make no register: a list, and what is nearly a wide composite. */
 static void loans_wrong_codes(void) {
     const uint8_t list[] = {0x30, 0x01, 0x6d, 0x3e, 0x22, 0x8c, 0xba, 0xb6, 0xd7, 0x35,
                             0x40, 0x01, 0x4a, 0x80, 0x50, 0x55, 0xc9, 0xba, 0xf3, 0x96};
     uint8_t *area = two_out();
-    put_place(area, PLACES - 1, list, sizeof list, 3);
+    make_room(area, 0, list, sizeof list, 3);
     not_a_register(area, "a list");
-    put_place(area, PLACES - 1, wide_code, sizeof wide_code - 1, 3);
+    close_gap(area, 0);
+    put_place(area, 2, wide_code, sizeof wide_code - 1, 3);
     not_a_register(area, "a cut wide composite");
-    put_place(area, PLACES - 1, wide_code, sizeof wide_code, 3);
-    area[(PLACES - 1) * PLACE] = sizeof wide_code + 1;
+    put_place(area, 2, wide_code, sizeof wide_code, 3);
+    area[2 * PLACE] = sizeof wide_code + 1;
     not_a_register(area, "a wide composite and a byte");
-    area[(PLACES - 1) * PLACE] = sizeof wide_code;
-    area[(PLACES - 1) * PLACE + 2] = 0x01;
+    area[2 * PLACE] = sizeof wide_code;
+    area[2 * PLACE + 2] = 0x01;
     not_a_register(area, "57 01");
-    put_place(area, PLACES - 1, composite_code, sizeof composite_code, 3);
-    not_a_register(area, "a code twice, two borrowers");
-    put_place(area, PLACES - 1, longest_code, sizeof longest_code, 2);
-    not_a_register(area, "a code twice, one borrower");
     free(area);
 }
 
-/* A register that no calls made, but could have: places between are free, and a length byte alone is a code of zeros. */
+/* Loans that could be out, each in a good place, but the places make no register: another order, by length too, a code in two
+ * of them, and used ones behind a free one. */
+static void loans_wrong_order(void) {
+    uint8_t *area = fresh_register();
+    put_place(area, 0, composite_code, sizeof composite_code, 1);
+    put_place(area, 1, longest_code, sizeof longest_code, 2);
+    not_a_register(area, "18 bytes that begin 55 before 42 that begin 50");
+    put_place(area, 2, wide_code, sizeof wide_code, 3);
+    not_a_register(area, "the first two exchanged");
+    put_place(area, 0, longest_code, sizeof longest_code, 2);
+    put_place(area, 1, wide_code, sizeof wide_code, 3);
+    put_place(area, 2, composite_code, sizeof composite_code, 1);
+    not_a_register(area, "the last two exchanged");
+    put_place(area, 1, composite_code, sizeof composite_code, 3);
+    not_a_register(area, "a code twice, two borrowers");
+    put_place(area, 1, composite_code, sizeof composite_code, 1);
+    not_a_register(area, "a code twice, one borrower");
+    put_place(area, 2, longest_code, sizeof longest_code, 2);
+    not_a_register(area, "a code twice, another between");
+    memset(area + 2 * PLACE, 0, PLACE);
+    for (size_t place = 3; place < PLACES; place += 63) {
+        put_place(area, place, wide_code, sizeof wide_code, 3);
+        not_a_register(area, "a used place behind a free one");
+        memset(area + place * PLACE, 0, PLACE);
+    }
+    memset(area, 0, PLACE);
+    not_a_register(area, "the first place free");
+    free(area);
+}
+
+/* A full register with one fault of order, wherever it stands: two neighbours exchanged, or the same code in both. */
+static void loans_wrong_pairs(void) {
+    uint8_t *full = fresh_register(), code[10], next[10];
+    char text[ISCC_TEXT_AREA + 1];
+    for (size_t i = 0; i < PLACES; i++) {
+        code_of_row(i, code, text);
+        put_place(full, i, code, sizeof code, 7);
+    }
+    for (size_t i = 0; i + 1 < PLACES; i++) {
+        uint8_t *area = copy_of(full, REGISTER);
+        code_of_row(i, code, text);
+        code_of_row(i + 1, next, text);
+        put_place(area, i, next, sizeof next, 7);
+        call_keeps(ASK, text, strlen(text), area, REGISTER, only(ISCC_NOT_REGISTER), "neighbours alike");
+        put_place(area, i + 1, code, sizeof code, 7);
+        call_keeps(ASK, text, strlen(text), area, REGISTER, only(ISCC_NOT_REGISTER), "neighbours exchanged");
+        free(area);
+    }
+    free(full);
+}
+
+/* A register that no calls made, but could have: a length byte alone is a code of zeros, before all others. */
 static void loans_from_elsewhere(void) {
+    const uint8_t zeros[6] = {0}; /* 00 00 and a body of zeros: a META unit of 32 bits */
     uint8_t *area = two_out();
-    area[5 * PLACE] = 6; /* 00 00 and a body of zeros: a META unit of 32 bits */
-    put_place(area, PLACES - 1, shortest_code, sizeof shortest_code, 9);
+    make_room(area, 0, shortest_code, sizeof shortest_code, 9);
+    make_room(area, 0, zeros, sizeof zeros, 0);
     has(area, "AAAAAAAAAA", 0);
     has(area, SHORTEST, 9);
-    return_frees(area, 5, "AAAAAAAAAA");
-    return_frees(area, PLACES - 1, SHORTEST);
-    issue_takes(area, 2, SHORTEST, 10, shortest_code, sizeof shortest_code);
+    return_closes(area, 0, "AAAAAAAAAA");
+    return_closes(area, 0, SHORTEST);
+    issue_takes(area, 0, SHORTEST, 10, shortest_code, sizeof shortest_code);
     free(area);
 }
 
@@ -378,15 +561,17 @@ static void loans_from_elsewhere(void) {
  * over its text: here the body of a code spells another one. */
 static void loans_only_read(void) {
     static const uint8_t area[REGISTER] = {
-        18, 0x30, 0x03, 'G', 'A', 'A', 'P', '6', 'A', 'A', 'A', 'A', 'E', ' ', ' ', ' ', ' ', ' ', ' ',
-        [PLACE] = 6, 0x30, 0x00, 0xff, 0x00, 0x00, 0x01, [PLACE + 44] = 0, 0, 1, 2,
+        6, 0x30, 0x00, 0xff, 0x00, 0x00, 0x01, [44] = 0, 0, 1, 2,
+        [PLACE] = 18, 0x30, 0x03, 'G', 'A', 'A', 'P', '6', 'A', 'A', 'A', 'A', 'E', ' ', ' ', ' ', ' ', ' ', ' ',
     };
     loans_holder answer = loans_ask((const uint8_t *)SHORTEST, strlen(SHORTEST), area, REGISTER);
     expect_same("number", answer.number, ISCC_OK, "register that cannot be written");
     expect_same("borrower", answer.borrower, 258, "register that cannot be written");
-    answer = loans_ask(area + 3, 16, area, REGISTER);
+    expect_same("looks", answer.looks, 2, "register that cannot be written");
+    answer = loans_ask(area + PLACE + 3, 16, area, REGISTER);
     expect_same("number", answer.number, ISCC_OK, "text in the register");
     expect_same("borrower", answer.borrower, 258, "text in the register");
+    expect_same("looks", answer.looks, 2, "text in the register");
 }
 
 #endif

@@ -169,9 +169,9 @@ static void log_every_cut(void) {
     registers[0] = copy_of(area, REGISTER);
     put_place(area, 0, composite_code, sizeof composite_code, 0x01020304);
     registers[1] = copy_of(area, REGISTER);
-    put_place(area, 1, shortest_code, sizeof shortest_code, 7);
+    make_room(area, 0, shortest_code, sizeof shortest_code, 7);
     registers[2] = copy_of(area, REGISTER);
-    memset(area, 0, PLACE);
+    close_gap(area, 1);
     registers[3] = copy_of(area, REGISTER);
     for (size_t cut = 0, whole = 0; cut <= starts[3]; cut++) {
         if (whole < 3 && cut == starts[whole + 1]) whole++;
@@ -190,9 +190,9 @@ static void log_every_cut(void) {
 static void log_stops(void) {
     uint8_t log[200], *before = fresh_register(), *after = fresh_register();
     size_t start, end;
-    put_place(before, 3, longest_code, sizeof longest_code, 9);
-    put_place(after, 3, longest_code, sizeof longest_code, 9);
+    put_place(before, 0, longest_code, sizeof longest_code, 9);
     put_place(after, 0, shortest_code, sizeof shortest_code, 7);
+    put_place(after, 1, longest_code, sizeof longest_code, 9);
     start = put_record(log, ISSUE, shortest_code, sizeof shortest_code, 7);
     for (loans_call call = ISSUE; call <= RETURN; call++) {
         uint32_t number = call == ISSUE ? ISCC_ALREADY_OUT : ISCC_NOT_OUT;
@@ -250,6 +250,28 @@ static void log_no_records(void) {
     free(after);
 }
 
+/* Records of a row in falling order, and of returns from its middle: each issue makes room, each return closes its gap. */
+static void log_moves(void) {
+    enum { COUNT = 9, BACK = 3 };
+    uint8_t log[COUNT * 17 + BACK * 13], *fresh = fresh_register(), *after = fresh_register(), code[10];
+    char text[ISCC_TEXT_AREA + 1];
+    size_t length = 0;
+    for (size_t i = COUNT; i-- > 0;) {
+        code_of_row(i, code, text);
+        length += put_record(log + length, ISSUE, code, sizeof code, (uint32_t)i);
+        make_room(after, 0, code, sizeof code, (uint32_t)i);
+        replay_gives(log, length, fresh, (loans_replayed){ISCC_OK, LOANS_RAN, 0}, after, "falling codes");
+    }
+    for (size_t i = 0; i < BACK; i++) {
+        code_of_row(BACK + i, code, text);
+        length += put_record(log + length, RETURN, code, sizeof code, 0);
+        close_gap(after, BACK);
+        replay_gives(log, length, fresh, (loans_replayed){ISCC_OK, LOANS_RAN, 0}, after, "returns from the middle");
+    }
+    free(fresh);
+    free(after);
+}
+
 /* A row of codes from the empty register on, one more than there are places. */
 static void log_full(void) {
     uint8_t *log = malloc((PLACES + 1) * 17), *area = fresh_register(), *fresh = fresh_register(), code[10];
@@ -279,17 +301,25 @@ static void log_not_a_register(void) {
         size_t length;
     } logs[] = {{NULL, 0}, {issue_and_return, 46}, {issue_and_return, 30}, {issue_and_return, 1}, {zeros, 3}};
     const size_t lengths[] = {0, 1, REGISTER - 1, REGISTER + 1, REGISTER};
+    uint8_t *exchanged = fresh_register(), *hole = fresh_register();
+    put_place(exchanged, 0, wide_code, sizeof wide_code, 5);
+    put_place(exchanged, 1, shortest_code, sizeof shortest_code, 5);
+    put_place(hole, 1, shortest_code, sizeof shortest_code, 5);
     for (size_t i = 0; i < sizeof logs / sizeof *logs; i++) {
+        const loans_replayed due = {ISCC_NOT_REGISTER, LOANS_NOT_BEGUN, 0};
+        replay_gives(logs[i].bytes, logs[i].length, exchanged, due, exchanged, "two codes exchanged");
+        replay_gives(logs[i].bytes, logs[i].length, hole, due, hole, "the first place free");
         for (size_t j = 0; j < sizeof lengths / sizeof *lengths; j++) {
             uint8_t *area = lengths[j] == 0 ? NULL : calloc(1, lengths[j]);
             if (lengths[j] == REGISTER) area[REGISTER - 1] = 1; /* the right length, and damaged */
             uint8_t *before = copy_of(area, lengths[j]);
-            replay_leaves(logs[i].bytes, logs[i].length, area, lengths[j],
-                          (loans_replayed){ISCC_NOT_REGISTER, LOANS_NOT_BEGUN, 0}, before, "not a register");
+            replay_leaves(logs[i].bytes, logs[i].length, area, lengths[j], due, before, "not a register");
             free(area);
             free(before);
         }
     }
+    free(exchanged);
+    free(hole);
 }
 
 /* A replay writes nothing to the log, not even the bytes that are there: this one lies where nobody may write. */

@@ -1,4 +1,4 @@
-//! Random registers with used places anywhere, and areas that are none.
+//! Random registers, and areas that are none by one fault.
 
 use crate::random::Random;
 use crate::{codes, records, texts};
@@ -11,18 +11,18 @@ pub fn borrower(random: &mut Random) -> u32 {
     random.pick(&[any, any, any, 0, 1, 255, 256, 1 << 31, u32::MAX])
 }
 
-/// A register, and codes of which so many as are out come first.
+/// A register, and codes of which so many as are out come first, in their order.
 pub struct Filled {
     pub area: Vec<u8>,
     pub codes: Vec<Vec<u8>>,
     pub used: usize,
 }
 
-/// A register of random codes: in the first places, in the last ones, or anywhere. The codes that are out come first in the
-/// list, then a few others.
+/// A register of random codes: few, all, nearly all, or as many as bring a question one look more.
 fn register(random: &mut Random) -> Filled {
     let used = match random.below(10) {
-        0..=6 => random.below(9),
+        0..=5 => random.below(9),
+        6 => random.pick(&[15, 16, 17, 31, 32, 33, 63, 64, 65, 127, 128, 129]),
         7 => random.below(PLACES),
         8 => PLACES - random.below(4),
         _ => PLACES,
@@ -30,42 +30,54 @@ fn register(random: &mut Random) -> Filled {
     register_of(random, used)
 }
 
-/// The same with so many codes out.
+/// The same with so many codes out, and a few others in the list.
 pub fn register_of(random: &mut Random, used: usize) -> Filled {
-    let codes = codes::different(random, used + 4);
-    let mut places: Vec<usize> = (0..PLACES).collect();
-    match random.below(4) {
-        0 => (),
-        1 => places.reverse(),
-        _ => random.shuffle(&mut places),
-    }
+    let mut codes = codes::different(random, used + 4);
+    codes[..used].sort();
     let mut area = vec![0; LENGTH];
-    for (&place, code) in places.iter().zip(&codes[..used]) {
+    for (place, code) in codes[..used].iter().enumerate() {
         let borrower = borrower(random);
         bytes_of(&mut area, place).copy_from_slice(&place_of(code, borrower));
     }
     Filled { area, codes, used }
 }
 
+/// A code that is out, the first and the last of them more often; or one that is mostly not, the least and the greatest of
+/// all codes among them.
+fn chosen(random: &mut Random, filled: &Filled) -> Vec<u8> {
+    let Filled { codes, used, .. } = filled;
+    match random.below(20) {
+        0..=6 if *used > 0 => codes[random.below(*used)].clone(),
+        7..=8 if *used > 0 => codes[0].clone(),
+        9 if *used > 0 => codes[used - 1].clone(),
+        10..=12 => codes::least(),
+        13 => codes::greatest(),
+        _ => codes[used + random.below(codes.len() - used)].clone(),
+    }
+}
+
 /// A call on a register or on a damaged one, mostly about a code that is out or could be.
 pub fn request(random: &mut Random, call: Call) -> Request {
-    let Filled { mut area, codes, used } = register(random);
-    if random.percent(40) {
-        damage(random, &mut area);
+    let filled = register(random);
+    let mut second = filled.area.clone();
+    if random.percent(45) {
+        damage(random, &mut second);
     }
     if call == Call::Replay {
-        return Request { first: records::log(random, &codes, used), second: area, ..Request::new(call) };
+        return Request { first: records::log(random, &filled.codes, filled.used), second, ..Request::new(call) };
     }
-    let code = match random.percent(50) && used > 0 {
-        true => &codes[random.below(used)],
-        false => &codes[used + random.below(codes.len() - used)],
-    };
+    let code = chosen(random, &filled);
     let borrower = if call == Call::Issue { borrower(random) } else { 0 };
-    Request { first: texts::for_loan(random, code), second: area, borrower, ..Request::new(call) }
+    Request { first: texts::for_loan(random, &code), second, borrower, ..Request::new(call) }
 }
 
 fn bytes_of(area: &mut [u8], place: usize) -> &mut [u8] {
     &mut area[place * PLACE..(place + 1) * PLACE]
+}
+
+/// The bytes of a place that are its code by its length.
+pub fn code_in(place: &[u8]) -> &[u8] {
+    &place[CODE..ZERO.min(CODE + place[0] as usize)]
 }
 
 /// One of the places that are used, or of those that are free: the first, the last or any.
@@ -82,46 +94,54 @@ fn any_place(random: &mut Random) -> usize {
     random.pick(&[0, PLACES - 1, any, any])
 }
 
-/// A used place; where there is none, one gets a code.
+/// A used place; where there is none, the first gets a code.
 fn used_place(random: &mut Random, area: &mut [u8]) -> usize {
     choose(random, area, true).unwrap_or_else(|| {
-        let place = any_place(random);
-        bytes_of(area, place).copy_from_slice(&place_of(&codes::composite(random), 7));
-        place
+        bytes_of(area, 0).copy_from_slice(&place_of(&codes::composite(random), 7));
+        0
     })
 }
 
-/// A free place; where there is none, one is freed.
+/// A free place; where there is none, the last is freed.
 fn free_place(random: &mut Random, area: &mut [u8]) -> usize {
     choose(random, area, false).unwrap_or_else(|| {
-        let place = any_place(random);
-        bytes_of(area, place).fill(0);
-        place
+        bytes_of(area, PLACES - 1).fill(0);
+        PLACES - 1
     })
 }
 
 /// One fault, of each kind that makes an area no register. A few of them leave a register, only another one.
 pub fn damage(random: &mut Random, area: &mut Vec<u8>) {
-    match random.below(12) {
+    match random.below(20) {
         0 => other_length(random, area),
-        1 => code_twice(random, area),
-        2 => {
+        1 => {
             let place = any_place(random);
             bytes_of(area, place).copy_from_slice(&random.bytes(PLACE));
         }
-        3 => {
+        2 => {
             let at = random.below(LENGTH);
             area[at] ^= 1 << random.below(8);
         }
-        4..=6 => {
+        3..=4 => {
             let place = free_place(random, area);
             spoil_free(random, bytes_of(area, place));
         }
-        _ => {
+        5..=10 => {
             let place = used_place(random, area);
             spoil_used(random, bytes_of(area, place));
+            if random.percent(80) {
+                put_in_order(area);
+            }
         }
+        _ => disorder(random, area),
     }
+}
+
+/// The used places first, in order by what their lengths say, so that what else is wrong with one is all that is.
+fn put_in_order(area: &mut [u8]) {
+    let mut places: Vec<Vec<u8>> = area.chunks(PLACE).map(<[u8]>::to_vec).collect();
+    places.sort_by_cached_key(|place| (place[0] == 0, code_in(place).to_vec()));
+    area.copy_from_slice(&places.concat());
 }
 
 /// Cut, or longer by zeros.
@@ -132,16 +152,72 @@ fn other_length(random: &mut Random, area: &mut Vec<u8>) {
     area.resize(random.pick(&lengths), 0);
 }
 
-/// A code stands in another place too, for the same borrower or another: right behind, at the other end, anywhere.
-fn code_twice(random: &mut Random, area: &mut [u8]) {
-    let place = used_place(random, area);
-    let any = any_place(random);
-    let other = random.pick(&[(place + 1) % PLACES, (place + PLACES - 1) % PLACES, any, any]);
-    let mut copy = bytes_of(area, place).to_vec();
+/// The used places of an area, as they stand.
+fn used_places(area: &[u8]) -> Vec<Vec<u8>> {
+    area.chunks(PLACE).filter(|place| place[0] != 0).map(<[u8]>::to_vec).collect()
+}
+
+/// Places that are good one by one: in another order, with a code twice, or with free ones before used ones.
+fn disorder(random: &mut Random, area: &mut [u8]) {
+    let mut places = used_places(area);
+    if places.len() < 3 {
+        places = used_places(&register_of(random, 3).area);
+    }
+    // Room for one more.
+    places.truncate(PLACES - 1);
+    let last = places.len() - 1;
+    let (any, any_before) = (random.below(last), random.below(last + 1));
+    // The first of two neighbours, where a copy of it does not stand beside it, and where free places come before used ones.
+    let at = random.pick(&[0, last - 1, any, any]);
+    let far = if at < places.len() / 2 { places.len() } else { 0 };
+    let before = random.pick(&[0, last, any_before]);
+    match random.below(12) {
+        0 => places.swap(at, at + 1),
+        1 => {
+            let neighbour = other_last_byte(&places[at], 1);
+            let is_behind = code_in(&neighbour) > code_in(&places[at]);
+            places.insert(if is_behind { at } else { at + 1 }, neighbour);
+        }
+        2 => places.insert(at + 1, for_another(random, &places[at])),
+        3 => places.insert(far, for_another(random, &places[at])),
+        4 => places.insert(before, vec![0; PLACE]),
+        5..=6 => {
+            let most = PLACES - places.len();
+            let any = 1 + random.below(most);
+            let count = random.pick(&[2, most, any, any]).min(most);
+            places.splice(before..before, vec![vec![0; PLACE]; count]);
+        }
+        7..=8 => places.sort_by_cached_key(|place| place[..ZERO].to_vec()),
+        9 => places.reverse(),
+        10 => {
+            places.push(other_last_byte(&places[at], 0x80));
+            places.sort_by_cached_key(|place| signed(code_in(place)));
+        }
+        _ => random.shuffle(&mut places),
+    }
+    area.fill(0);
+    area[..places.len() * PLACE].copy_from_slice(&places.concat());
+}
+
+/// Bytes as a careless order might take them.
+pub fn signed(code: &[u8]) -> Vec<i8> {
+    code.iter().map(|&byte| byte as i8).collect()
+}
+
+/// A place with a code that differs in this bit of its last byte alone.
+fn other_last_byte(place: &[u8], bit: u8) -> Vec<u8> {
+    let mut other = place.to_vec();
+    other[CODE + place[0] as usize - 1] ^= bit;
+    other
+}
+
+/// A copy of a place, for the same borrower or another.
+fn for_another(random: &mut Random, place: &[u8]) -> Vec<u8> {
+    let mut copy = place.to_vec();
     if random.percent(50) {
         copy[BORROWER] ^= 1;
     }
-    bytes_of(area, other).copy_from_slice(&copy);
+    copy
 }
 
 /// A byte of a free place is not zero: any, the zero byte, one of the borrower, or the length alone.

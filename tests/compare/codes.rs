@@ -29,6 +29,16 @@ pub fn unit(random: &mut Random) -> Vec<u8> {
     with_body(random, main_type, subtype, length, body)
 }
 
+/// The code that comes before all others: META of 32 bits, all zero.
+pub fn least() -> Vec<u8> {
+    vec![0; 6]
+}
+
+/// The code that comes behind all others: ID of the last subtype and the greatest length, all ones.
+pub fn greatest() -> Vec<u8> {
+    [vec![0x65, 4], vec![0xff; 12]].concat()
+}
+
 /// A wide composite.
 pub fn wide(random: &mut Random) -> Vec<u8> {
     with_body(random, 5, 7, 0, 32)

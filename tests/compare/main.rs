@@ -3,6 +3,7 @@
 mod areas;
 mod cases;
 mod codes;
+mod faults;
 mod large;
 mod lines;
 mod log;
@@ -204,7 +205,7 @@ fn report(tally: &mut Tally, call: Call, outcome: &Outcome) {
     if !outcome.differences.is_empty() {
         return tally.check(&name, false, format!("{} cases run{}", outcome.cases, outcome.differences.concat()));
     }
-    let few = outcome.seen.few(call, call.numbers(), wide::kinds(call));
+    let few = [outcome.seen.few(call, call.numbers(), wide::kinds(call)), outcome.seen.few_on_areas(call)].concat();
     if !few.is_empty() && outcome.cases > 1 {
         return tally.check(&name, false, format!("the cases hardly reach {}", few.join(", ")));
     }

@@ -1,16 +1,28 @@
-//! How often each number was the right answer, and each end of a replay; and how often wide composites came.
+//! How often each number was the right answer, each end of a replay, and each count of looks; how often wide composites came,
+//! and areas with each fault.
 
-use crate::wide;
+use crate::{faults, wide};
 use harness::call::{Call, Request, Response};
+use reference::refusal::NOT_OUT;
 
 /// The ends of a replay, in the order of their numbers.
 const ENDS: [&str; 4] = ["not begun", "ran", "torn", "stopped"];
+
+/// The most looks of a question.
+const MOST_LOOKS: usize = 9;
+
+/// From so many cases on, looks and faults have to come out: there are too many of them for fewer.
+const MANY: usize = 2000;
 
 #[derive(Default)]
 pub struct Seen {
     numbers: [usize; 25],
     ends: [usize; ENDS.len()],
+    /// Of questions by their looks: those that find the code, and those that do not.
+    found: [usize; MOST_LOOKS + 1],
+    not_found: [usize; MOST_LOOKS + 1],
     wide: [usize; wide::KINDS.len()],
+    faults: [usize; faults::KINDS.len()],
 }
 
 impl Seen {
@@ -19,7 +31,15 @@ impl Seen {
         if request.call == Call::Replay {
             self.ends[due.values[0] as usize] += 1;
         }
+        match (request.call, due.number) {
+            (Call::Ask, 0) => self.found[due.values[1] as usize] += 1,
+            (Call::Ask, NOT_OUT) => self.not_found[due.values[1] as usize] += 1,
+            _ => (),
+        }
         for (count, found) in self.wide.iter_mut().zip(wide::found(request, due)) {
+            *count += usize::from(found);
+        }
+        for (count, found) in self.faults.iter_mut().zip(faults::found(request, due)) {
             *count += usize::from(found);
         }
     }
@@ -28,23 +48,46 @@ impl Seen {
         self.numbers.iter().sum()
     }
 
+    fn is_rare(&self, count: usize) -> bool {
+        count * 100_000 < self.all().max(1)
+    }
+
     /// Those of the numbers and of the kinds of wide composites, and for a replay those of the ends, that the cases hardly
     /// bring out: such cases would test nothing of them.
     pub fn few(&self, call: Call, numbers: &[u32], kinds: &[usize]) -> Vec<String> {
-        let all = self.all().max(1);
-        let is_rare = |count: usize| count * 100_000 < all;
-        let rare = numbers.iter().filter(|&&number| is_rare(self.numbers[number as usize])).map(u32::to_string);
-        let ends = ENDS.iter().zip(self.ends).filter(|&(_, count)| call == Call::Replay && is_rare(count));
-        let wide = kinds.iter().filter(|&&kind| is_rare(self.wide[kind])).map(|&kind| wide::KINDS[kind].to_string());
+        let rare = numbers.iter().filter(|&&number| self.is_rare(self.numbers[number as usize])).map(u32::to_string);
+        let ends = ENDS.iter().zip(self.ends).filter(|&(_, count)| call == Call::Replay && self.is_rare(count));
+        let wide = kinds.iter().filter(|&&kind| self.is_rare(self.wide[kind])).map(|&kind| wide::KINDS[kind].to_string());
         rare.chain(ends.map(|(end, _)| end.to_string())).chain(wide).collect()
     }
 
-    /// The count for each number that the call can answer, for a replay for each end, and for each kind of wide composites
-    /// that the call can meet.
+    /// The same of what a call can meet in any area.
+    pub fn few_on_areas(&self, call: Call) -> Vec<String> {
+        let few = self.on_areas(call).into_iter().filter(|&(_, count)| self.all() >= MANY && self.is_rare(count));
+        few.map(|(name, _)| name).collect()
+    }
+
+    /// The looks of a question, and the faults of an area.
+    fn on_areas(&self, call: Call) -> Vec<(String, usize)> {
+        let by_looks = |what: &'static str, counts: [usize; MOST_LOOKS + 1]| {
+            counts.into_iter().enumerate().map(move |(looks, count)| (format!("{what} by {looks} looks"), count))
+        };
+        // What is found takes a look.
+        let looks = by_looks("found", self.found).skip(1).chain(by_looks("not found", self.not_found));
+        let faults = faults::KINDS.iter().zip(self.faults).map(|(kind, count)| (kind.to_string(), count));
+        let of_area = call.reads().1 == Some("area");
+        looks.filter(|_| call == Call::Ask).chain(faults.filter(|_| of_area)).collect()
+    }
+
+    /// The count for each number that the call can answer, for a replay for each end, for each kind of wide composites that
+    /// the call can meet, and for the looks and faults that it met.
     pub fn shown(&self, call: Call) -> String {
         let numbers = call.numbers().iter().map(|&number| format!("{number}:{}", self.numbers[number as usize]));
         let ends = ENDS.iter().zip(self.ends).filter(|_| call == Call::Replay);
         let wide = wide::kinds(call).iter().map(|&kind| format!("{}:{}", wide::KINDS[kind], self.wide[kind]));
-        numbers.chain(ends.map(|(end, count)| format!("{end}:{count}"))).chain(wide).collect::<Vec<_>>().join(" ")
+        let on_areas = self.on_areas(call).into_iter().filter(|&(_, count)| count > 0);
+        let named = ends.map(|(end, count)| format!("{end}:{count}")).chain(wide);
+        let named = named.chain(on_areas.map(|(name, count)| format!("{name}:{count}")));
+        numbers.chain(named).collect::<Vec<_>>().join(" ")
     }
 }

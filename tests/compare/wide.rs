@@ -1,10 +1,10 @@
 //! What a case has of wide composites: cases that hardly bring one of these kinds out would test nothing of it.
 
-use crate::records;
+use crate::{areas, records};
 use harness::call::{Call, Request, Response};
 use reference::log::{End, HEAD, ISSUE};
 use reference::refusal::{ALL_OUT, ALREADY_OUT, NOT_OUT, NOT_RECORD, NOT_REGISTER};
-use reference::register::{CODE, PLACE, ZERO};
+use reference::register::PLACE;
 use reference::{base32, header};
 
 /// The kinds, in the order of their counts.
@@ -108,7 +108,7 @@ fn asked(request: &Request, due: &Response) -> Vec<Option<usize>> {
 /// What the places of a register hold, and of an area that is none, where the answer tells which it is.
 fn in_places(request: &Request, due: &Response) -> Vec<Option<usize>> {
     let is_register = matches!(due.number, 0 | ALREADY_OUT | ALL_OUT | NOT_OUT | NOT_RECORD);
-    let kind_in = |place: &[u8]| match kind_of(&place[CODE..ZERO.min(CODE + place[0] as usize)])? {
+    let kind_in = |place: &[u8]| match kind_of(areas::code_in(place))? {
         ALONE if is_register => Some(IN_PLACE),
         FOLLOWED | CUT | OTHER_LENGTH if due.number == NOT_REGISTER => Some(SPOILT_IN_PLACE),
         _ => None,

@@ -140,7 +140,8 @@ def check_homes(document: Document, index: Index, tally: Tally) -> None:
 PROMISES = {
     "crates/iscc/specs/Demands.antt": (r"Demand[123]\.", 42),
     "crates/iscc/specs/WideComposites.antt": (r"\w+\.", 22),
-    "crates/loans/specs/Promises.antt": (r"\w+\.", 20),
+    "crates/loans/specs/Promises.antt": (r"\w+\.", 27),
+    "crates/loans/specs/OrderPromises.antt": (r"\w+\.", 26),
     "crates/loans/specs/Good.antt": (r"Sound\.", 4),
     "crates/loans/specs/LogPromises.antt": (r"\w+\.", 16),
     "crates/loans/specs/Tears.antt": (r"(Tears|TornOff)\.", 6),

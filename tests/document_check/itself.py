@@ -20,7 +20,7 @@ UNKNOWN = [
     "MainType::from_nothing", "header::reader::first_bad", "code::write_lists", "iscc/specs/Meanings.antt", "Door.antt",
     "outtake.tsv", "line_NN.in", "tests/slip", "iscc_outtake", "ISCC_TEXT_AREAS", "compare outtake", "rt develop NAME",
     "rt dev nothing", "tests/run --sideways", "tests/run sideways", "r ≡ headerReadAs (readHeaders bytes)",
-    "r .nowhere", "--sideways", "antt", "eader", "tests/intake full_disks", "tests/run/", "Demand3.meant", "countOver",
+    "r .sideways", "--sideways", "antt", "eader", "tests/intake full_disks", "tests/run/", "Demand3.meant", "countOver",
     "Table.set-back", "base32-back-again", "RT_JOBS=1 rt nothing", "nosuchlawname2", "nosuchlawname22222",
 ]
 # In any document, and nowhere in it.

@@ -231,7 +231,7 @@ impl Response {
     pub fn fields(&self, call: Call) -> Fields {
         let names: &[&str] = match call {
             Call::Strict | Call::Issue | Call::TakeBack => &[],
-            Call::Ask => &["borrower"],
+            Call::Ask => &["borrower", "looks"],
             Call::Replay => &["end", "offset"],
             Call::Distance => &["d", "n", "ratio"],
             Call::HeaderRead | Call::UnitRead => &["main_type", "subtype", "version", "length", "used"],

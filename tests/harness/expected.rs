@@ -3,6 +3,7 @@
 use crate::call::{Call, Request, Response};
 use reference::header::Header;
 use reference::log::Replayed;
+use reference::register::Held;
 use reference::{base32, composite, distance, doors, header, log, register, unit, Answer};
 
 fn written(answer: Answer<Vec<u8>>) -> Response {
@@ -53,9 +54,9 @@ fn replayed(answer: Replayed) -> Response {
     Response { number: answer.number, values, written: answer.area }
 }
 
-fn held(answer: Answer<u32>) -> Response {
-    let told = |borrower| Response { values: [u64::from(borrower), 0, 0, 0, 0], ..Response::default() };
-    answer.map_or_else(Response::refused, told)
+fn held(answer: Held) -> Response {
+    let values = [u64::from(answer.borrower), u64::from(answer.looks), 0, 0, 0];
+    Response { number: answer.number, values, written: Vec::new() }
 }
 
 pub fn answer(request: &Request) -> Response {

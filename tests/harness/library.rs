@@ -38,6 +38,7 @@ struct HeaderAnswer {
 struct Holder {
     number: u32,
     borrower: u32,
+    looks: u32,
 }
 
 #[repr(C)]
@@ -316,7 +317,8 @@ fn header(answer: HeaderAnswer) -> Response {
 }
 
 fn held(answer: Holder) -> Response {
-    Response { number: answer.number, values: [u64::from(answer.borrower), 0, 0, 0, 0], written: Vec::new() }
+    let values = [u64::from(answer.borrower), u64::from(answer.looks), 0, 0, 0];
+    Response { number: answer.number, values, written: Vec::new() }
 }
 
 fn replayed(answer: ReplayAnswer) -> Response {

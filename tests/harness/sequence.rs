@@ -65,19 +65,26 @@ impl Asked {
         format!("{step} {}", if torn { "torn" } else { &self.due[0].1 })
     }
 
+    /// The looks that are due to a question.
+    pub fn looks(&self) -> Option<u32> {
+        let looks = self.due.iter().find(|field| field.0 == "looks")?;
+        looks.1.parse().ok()
+    }
+
     /// Whether the answer is older than wide composites: 24 for the record of one.
     pub fn is_overtaken(&self) -> bool {
         let is_wide = self.request.first.len() == 34 && self.request.first.starts_with(&[0x57, 0x00]);
         is_wide && self.kind() == "append 24"
     }
 
-    /// The same columns of a response. The C interface has no value for `told` and `looks`, which are 0 throughout.
+    /// The same columns of a response. The C interface has no value for `told`, which is 0 throughout.
     pub fn fields_of(&self, response: &Response) -> Fields {
         let mut fields = response.fields(self.call());
         if self.call() == Call::Replay {
             fields.extend([("outcome", outcome(response)), ("place", response.values[1].to_string())]);
         }
-        let value = |name| fields.iter().find(|field| field.0 == name).map_or("0".to_string(), |field| field.1.clone());
+        fields.push(("told", "0".to_string()));
+        let value = |name| fields.iter().find(|field| field.0 == name).expect("a column of the answer").1.clone();
         self.due.iter().map(|&(name, _)| (name, value(name))).collect()
     }
 

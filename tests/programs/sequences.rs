@@ -5,15 +5,15 @@ use harness::sequence::{self, Asked, Held, Step};
 use harness::told::{self, Difference, Told};
 use harness::{expected, table};
 
-/// What the sequences have at least, as their README says, so that none is lost unseen: lines of each file, and lines for
-/// success and for each number of a call's own.
+/// What the sequences have at least, as their README says, so that none is lost unseen: lines of each file, lines for success
+/// and for each number of a call's own, and questions that look at so many places.
 pub const LEAST_OF_A_NUMBER: usize = 50;
 
 fn least_lines(file: &str) -> usize {
     match file {
-        sequence::REGISTER => 1400,
+        sequence::REGISTER => 1390,
         sequence::LOG => 540,
-        _ => 1460,
+        _ => 1357,
     }
 }
 
@@ -37,6 +37,14 @@ fn kinds(file: &str) -> &'static [(&'static str, &'static [&'static str])] {
     }
 }
 
+/// The questions of a file that find a code, and those that do not, by the looks that are to stand there.
+fn looks(file: &str) -> &'static [(&'static str, &'static [u32])] {
+    match file {
+        sequence::REGISTER => &[("ask 0", &[1, 2, 3, 4, 5, 6, 7, 8, 9]), ("ask 22", &[0, 1, 2, 3, 4, 5, 6, 8])],
+        _ => &[],
+    }
+}
+
 /// What a file of sequences has too few of, and overtaken lines if they are more or fewer.
 pub fn too_few(file: &str, text: &str) -> Vec<String> {
     let steps: Vec<Step> = table::lines(text).flat_map(|(_, line)| sequence::parse(line)).collect();
@@ -57,6 +65,15 @@ pub fn too_few(file: &str, text: &str) -> Vec<String> {
                 few.push(format!("\n {file}: {kind} in {count} lines"));
             }
         }
+    }
+    for &(kind, all) in looks(file) {
+        let found: Vec<u32> = calls.iter().filter(|asked| asked.kind() == kind).filter_map(|asked| asked.looks()).collect();
+        let count = found.iter().filter(|&&looks| looks > 0).count();
+        if count < LEAST_OF_A_NUMBER {
+            few.push(format!("\n {file}: {kind} with looks in {count} lines"));
+        }
+        let missing = all.iter().filter(|looks| !found.contains(looks));
+        few.extend(missing.map(|looks| format!("\n {file}: no {kind} with {looks} looks")));
     }
     few
 }

@@ -1,9 +1,10 @@
-//! The loans register: who has which code, in one area of 256 places.
+//! The loans register: who has which code, in one area of 256 places. The used ones come first, in rising order of their code
+//! bytes; the others are free.
 
 use crate::doors::{code_bytes, LONGEST_CODE};
 use crate::refusal::{ALL_OUT, ALREADY_OUT, NOT_OUT, NOT_REGISTER};
 use crate::{demand, unit, Answer};
-use std::collections::HashSet;
+use std::cmp::Ordering;
 
 /// The places of a register, and the bytes of each.
 pub const PLACES: usize = 256;
@@ -19,6 +20,13 @@ pub const BORROWER: usize = 44;
 struct Loan {
     code: Vec<u8>,
     borrower: u32,
+}
+
+/// What a question answers. A refusal has borrower 0; of all refusals 22 alone has looks.
+pub struct Held {
+    pub number: u32,
+    pub borrower: u32,
+    pub looks: u32,
 }
 
 fn zeros(bytes: &[u8]) -> bool {
@@ -46,26 +54,24 @@ fn loan_at(place: &[u8]) -> Answer<Option<Loan>> {
     Ok(Some(Loan { code: code.to_vec(), borrower }))
 }
 
-/// What each place of an area holds; 23 where the area is no register.
-fn loans(area: &[u8]) -> Answer<Vec<Option<Loan>>> {
+/// Which of two codes comes first: byte by byte, and a beginning of the other before it.
+fn order(one: &[u8], other: &[u8]) -> Ordering {
+    one.cmp(other)
+}
+
+/// Whether the first of two neighbours comes before the second; equal codes do not.
+fn rises(two: &[Loan]) -> bool {
+    order(&two[0].code, &two[1].code).is_lt()
+}
+
+/// The loans of an area, in their order; 23 where the area is no register.
+fn loans(area: &[u8]) -> Answer<Vec<Loan>> {
     demand(area.len() == LENGTH, NOT_REGISTER)?;
-    let loans = area.chunks(PLACE).map(loan_at).collect::<Answer<Vec<_>>>()?;
-    let codes: Vec<&[u8]> = loans.iter().flatten().map(|loan| &loan.code[..]).collect();
-    let different: HashSet<&[u8]> = codes.iter().copied().collect();
-    demand(different.len() == codes.len(), NOT_REGISTER)?;
+    let places = area.chunks(PLACE).map(loan_at).collect::<Answer<Vec<_>>>()?;
+    demand(places.iter().skip_while(|place| place.is_some()).all(Option::is_none), NOT_REGISTER)?;
+    let loans: Vec<Loan> = places.into_iter().flatten().collect();
+    demand(loans.windows(2).all(rises), NOT_REGISTER)?;
     Ok(loans)
-}
-
-/// The place of a code, and who has it.
-fn found(loans: &[Option<Loan>], code: &[u8]) -> Option<(usize, u32)> {
-    let holds = |loan: &Loan| loan.code == code;
-    let place = loans.iter().position(|loan| loan.as_ref().is_some_and(holds))?;
-    Some((place, loans[place].as_ref()?.borrower))
-}
-
-/// The area with other bytes from an offset on.
-fn overwritten(area: &[u8], offset: usize, bytes: &[u8]) -> Vec<u8> {
-    [&area[..offset], bytes, &area[offset + bytes.len()..]].concat()
 }
 
 /// The bytes of a place that holds this loan.
@@ -77,24 +83,52 @@ pub fn place_of(code: &[u8], borrower: u32) -> Vec<u8> {
     place
 }
 
+/// The register of some loans in their order: their places, and free ones behind.
+fn area_of(loans: &[Loan]) -> Vec<u8> {
+    let mut area: Vec<u8> = loans.iter().flat_map(|loan| place_of(&loan.code, loan.borrower)).collect();
+    area.resize(LENGTH, 0);
+    area
+}
+
 /// Only 23.
 pub(crate) fn test(area: &[u8]) -> Answer<()> {
     loans(area).map(drop)
 }
 
-/// The register after the issue of a code: 23, 20, 21.
+/// The register after the issue of a code: 23, 20, 21. The new loan stands behind all whose codes come before it.
 pub(crate) fn issue_code(code: &[u8], borrower: u32, area: &[u8]) -> Answer<Vec<u8>> {
-    let loans = loans(area)?;
-    demand(found(&loans, code).is_none(), ALREADY_OUT)?;
-    let place = loans.iter().position(Option::is_none).ok_or(ALL_OUT)?;
-    Ok(overwritten(area, place * PLACE, &place_of(code, borrower)))
+    let mut loans = loans(area)?;
+    demand(!loans.iter().any(|loan| loan.code == code), ALREADY_OUT)?;
+    demand(loans.len() < PLACES, ALL_OUT)?;
+    let place = loans.iter().filter(|loan| order(&loan.code, code).is_lt()).count();
+    loans.insert(place, Loan { code: code.to_vec(), borrower });
+    Ok(area_of(&loans))
 }
 
-/// The register after the return of a code: 23, 22.
+/// The register after the return of a code: 23, 22. The loans behind it close the gap.
 pub(crate) fn take_code_back(code: &[u8], area: &[u8]) -> Answer<Vec<u8>> {
-    let loans = loans(area)?;
-    let (place, _) = found(&loans, code).ok_or(NOT_OUT)?;
-    Ok(overwritten(area, place * PLACE, &[0; PLACE]))
+    let mut loans = loans(area)?;
+    let place = loans.iter().position(|loan| loan.code == code).ok_or(NOT_OUT)?;
+    loans.remove(place);
+    Ok(area_of(&loans))
+}
+
+/// A code among loans in their order: its borrower, if it is out, and how many of them were looked at. Each look is at the
+/// middle of those that remain, the first of them plus half their count, rounded down; then only the part before it or the
+/// part behind it remains.
+fn searched(loans: &[Loan], code: &[u8]) -> (Option<u32>, u32) {
+    let (mut remaining, mut looks) = (loans, 0);
+    while !remaining.is_empty() {
+        let half = remaining.len() / 2;
+        let middle = &remaining[half];
+        looks += 1;
+        match order(code, &middle.code) {
+            Ordering::Equal => return (Some(middle.borrower), looks),
+            Ordering::Less => remaining = &remaining[..half],
+            Ordering::Greater => remaining = &remaining[half + 1..],
+        }
+    }
+    (None, looks)
 }
 
 /// The register after an issue: intake's numbers, then 23, 20, 21.
@@ -108,9 +142,11 @@ pub fn take_back(text: &[u8], area: &[u8]) -> Answer<Vec<u8>> {
 }
 
 /// Who has a code: intake's numbers, then 23, 22.
-pub fn ask(text: &[u8], area: &[u8]) -> Answer<u32> {
-    let code = code_bytes(text)?;
-    let loans = loans(area)?;
-    let (_, borrower) = found(&loans, &code).ok_or(NOT_OUT)?;
-    Ok(borrower)
+pub fn ask(text: &[u8], area: &[u8]) -> Held {
+    let found = code_bytes(text).and_then(|code| Ok(searched(&loans(area)?, &code)));
+    match found {
+        Err(number) => Held { number, borrower: 0, looks: 0 },
+        Ok((None, looks)) => Held { number: NOT_OUT, borrower: 0, looks },
+        Ok((Some(borrower), looks)) => Held { number: 0, borrower, looks },
+    }
 }

@@ -4,6 +4,7 @@
 use reference::distance::Distance;
 use reference::header::Header;
 use reference::log::Replayed;
+use reference::register::Held;
 use reference::{base32, composite, distance, doors, header, log, register, unit, Answer};
 
 #[repr(C)]
@@ -35,6 +36,7 @@ pub struct HeaderAnswer {
 pub struct Holder {
     number: u32,
     borrower: u32,
+    looks: u32,
 }
 
 #[repr(C)]
@@ -185,10 +187,8 @@ pub unsafe extern "C" fn loans_return(text: *const u8, text_len: usize, area: *m
 
 #[no_mangle]
 pub unsafe extern "C" fn loans_ask(text: *const u8, text_len: usize, area: *const u8, area_len: usize) -> Holder {
-    match register::ask(lent(text, text_len), lent(area, area_len)) {
-        Err(number) => Holder { number, borrower: 0 },
-        Ok(borrower) => Holder { number: 0, borrower },
-    }
+    let Held { number, borrower, looks } = register::ask(lent(text, text_len), lent(area, area_len));
+    Holder { number, borrower, looks }
 }
 
 #[no_mangle]

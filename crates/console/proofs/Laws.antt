@@ -19,7 +19,8 @@ use Rattle.log.specs.Representation.{appendedAs, endAs, replayedAs}
 use Rattle.door.specs.Representation.{checkedNumber}
 use Rattle.door.specs.declared.strict.Checked.{Checked}
 use Rattle.door.specs.declared.strict.Checked.the-variants.{Accepted, Refused}
-use Rattle.register.specs.Representation.{holderAs, holderNumber, holderBorrower}
+use Rattle.register.specs.Representation.{askedAs, holderNumber, holderBorrower}
+use Rattle.register.specs.declared.answer.Asked.{Asked}
 use Rattle.register.specs.declared.answer.Holder.{Holder}
 use Rattle.register.specs.declared.answer.Holder.the-variants as holders
 use Rattle.console.specs.declared.lending.HolderAnswer.{HolderAnswer}
@@ -34,18 +35,19 @@ not-taken r x q e f = ap checkedNumber (sym f) ∙ e
 
 -- ---- a question
 
-abbrev answerFor : Holder → HolderAnswer
-answerFor h = record { number = holderNumber h; borrower = holderBorrower h }
+abbrev answerFor : Asked → HolderAnswer
+answerFor a = record { number = holderNumber (a .holder); borrower = holderBorrower (a .holder); looks = a .looks }
 
-holder-answer : (x : Answer ℕ) → answerFor (holderAs x) ≡ holderAnswerAs x
-holder-answer (accept b) = refl
-holder-answer (refuse q) = refl
+asked-answer : (x : Answer ℕ) (looks : ℕ) → answerFor (askedAs x looks) ≡ holderAnswerAs x looks
+asked-answer (accept b) looks = refl
+asked-answer (refuse q) looks = refl
 
-pub is-held : (r : Holder) (x : Answer ℕ) (b : ℕ) → r ≡ holderAs x → r ≡ holders.Borrower b → record { number = 0; borrower = b } ≡ holderAnswerAs x
-is-held r x b e f = ap answerFor (sym f ∙ e) ∙ holder-answer x
+module _ (a : Asked) (x : Answer ℕ) (looks : ℕ) (e : a ≡ askedAs x looks) where
+  pub is-held : (b : ℕ) → a .holder ≡ holders.Borrower b → record { number = 0; borrower = b; looks = a .looks } ≡ holderAnswerAs x looks
+  is-held b f = ap (λ (h : Holder). record { number = holderNumber h; borrower = holderBorrower h; looks = a .looks }) (sym f) ∙ ap answerFor e ∙ asked-answer x looks
 
-pub not-held : (r : Holder) (x : Answer ℕ) (q : Refusal) → r ≡ holderAs x → r ≡ holders.Refused q → record { number = q .number; borrower = 0 } ≡ holderAnswerAs x
-not-held r x q e f = ap answerFor (sym f ∙ e) ∙ holder-answer x
+  pub not-held : (q : Refusal) → a .holder ≡ holders.Refused q → record { number = q .number; borrower = 0; looks = a .looks } ≡ holderAnswerAs x looks
+  not-held q f = ap (λ (h : Holder). record { number = holderNumber h; borrower = holderBorrower h; looks = a .looks }) (sym f) ∙ ap answerFor e ∙ asked-answer x looks
 
 -- ---- a record
 

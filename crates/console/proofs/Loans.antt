@@ -5,36 +5,40 @@ use mathlib.Core.List.{List, [], _∷_, map}
 use Rattle.iscc.specs.Answer.{Answer, accept, refuse, numberOf}
 use Rattle.loans.specs.Calls.{Call, issue, takeBack, ask, done, answers}
 use Rattle.loans.specs.Register.{changedArea, askedArea, callArea}
-use Rattle.loans.specs.Contents.{register, issueText, returnText}
+use Rattle.loans.specs.Contents.{register, issueText, returnText, askText, looksText}
 use Rattle.loans.specs.Replay.{Replayed, replayed, areaReplayed}
 use Rattle.loans.specs.PendingLog.{applyRecord, replayLog}
 use Rattle.loans.specs.Operations.{Operation, live, replay, perform}
 use Rattle.loans.specs.Operations as operations
 use Rattle.loans.proofs.Promises.{loans-register}
+use Rattle.loans.proofs.OrderPromises.{register-in-order}
 use Rattle.loans.proofs.LogPromises.{pending-log}
-use Rattle.console.specs.declared.lending.HolderAnswer.{HolderAnswer}
 use Rattle.console.specs.Representation.{holderAnswerAs, replayAnswerAs}
-use Rattle.console.specs.Loans.{told, left, allTold, Heard, ofCall, ofReplay, heardAs, heard, leaves, allHeard, ConsoleLoans}
+use Rattle.console.specs.Loans.{CallAnswer, answerAs, withoutLooks, told, left, allTold, Heard, ofCall, ofReplay, heardAs, heard, leaves, allHeard, ConsoleLoans}
 
 -- a change tells its number, and no borrower
-change-told : {S : Type 0} (x : Answer S) → _≡_ {A = HolderAnswer} (record { number = numberOf x; borrower = 0 }) (holderAnswerAs (done x))
+change-told : {S : Type 0} (x : Answer S) → _≡_ {A = CallAnswer} (record { number = numberOf x; borrower = 0 }) (answerAs (done x))
 change-told (accept s) = refl
 change-told (refuse q) = refl
 
-call-told : (k : Call) (area : List ℕ) → told k area ≡ holderAnswerAs (callArea register k area .answer)
+ask-told : (x : Answer ℕ) (looks : ℕ) → withoutLooks (holderAnswerAs x looks) ≡ answerAs x
+ask-told (accept b) looks = refl
+ask-told (refuse q) looks = refl
+
+call-told : (k : Call) (area : List ℕ) → told k area ≡ answerAs (callArea register k area .answer)
 call-told (issue t b) area = change-told (issueText t b area)
 call-told (takeBack t) area = change-told (returnText t area)
-call-told (ask t) area = refl
+call-told (ask t) area = ask-told (askText t area) (looksText t area)
 
 call-left : (k : Call) (area : List ℕ) → left k area ≡ callArea register k area .state
 call-left (issue t b) area = refl
 call-left (takeBack t) area = refl
 call-left (ask t) area = refl
 
-all-told : (ks : List Call) (area : List ℕ) → allTold ks area ≡ map holderAnswerAs (answers (changedArea register) (askedArea register) ks area)
+all-told : (ks : List Call) (area : List ℕ) → allTold ks area ≡ map answerAs (answers (changedArea register) (askedArea register) ks area)
 all-told [] area = refl
 all-told (k ∷ ks) area =
-    ap₂ (λ (x : HolderAnswer) (xs : List HolderAnswer). x ∷ xs) (call-told k area) (ap (allTold ks) (call-left k area) ∙ all-told ks (callArea register k area .state))
+    ap₂ (λ (x : CallAnswer) (xs : List CallAnswer). x ∷ xs) (call-told k area) (ap (allTold ks) (call-left k area) ∙ all-told ks (callArea register k area .state))
 
 -- ---- with replays among the calls
 
@@ -50,7 +54,7 @@ replay-leaves (accept y) area = refl
 replay-leaves (refuse q) area = refl
 
 is-heard : (w : Operation) (area : List ℕ) → heard w area ≡ heardAs (performed w area .told)
-is-heard (live k) area = ap (λ (x : HolderAnswer). ofCall x) (call-told k area)
+is-heard (live k) area = ap (λ (x : CallAnswer). ofCall x) (call-told k area)
 is-heard (replay log) area = replay-heard (replayLog log area) area
 
 is-left : (w : Operation) (area : List ℕ) → leaves w area ≡ performed w area .state
@@ -66,6 +70,11 @@ all-heard (w ∷ ws) area =
 pub console-loans : ConsoleLoans
 console-loans =
     record {
-      asPlainMap = λ ks g. all-told ks _ ∙ ap (map holderAnswerAs) (loans-register .asPlainMap ks g);
+      asPlainMap = λ ks g. all-told ks _ ∙ ap (map answerAs) (loans-register .asPlainMap ks g);
       asMap = λ ws g. all-heard ws _ ∙ ap (map heardAs) (pending-log .asMap ws g);
+      nine = λ t area. rw (looks-told (askText t area) (looksText t area)) (register-in-order .looks .nine t area);
     }
+  where
+    looks-told : (x : Answer ℕ) (looks : ℕ) → holderAnswerAs x looks .looks ≡ looks
+    looks-told (accept b) looks = refl
+    looks-told (refuse q) looks = refl

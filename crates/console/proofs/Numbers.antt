@@ -14,7 +14,7 @@ use Rattle.iscc.proofs.Numbers.{Numbered, number-table, number-0, outcome-numbe
 use Rattle.distance.specs.Representation.{measuredAs}
 use Rattle.iscc.proofs.Answer.{never, refuse-inj, value-of}
 use Rattle.loans.specs.Map.{Change}
-use Rattle.loans.specs.Contents.{isRegister, register, askText}
+use Rattle.loans.specs.Contents.{isRegister, register, askText, looksText}
 use Rattle.loans.specs.Fields.{fieldBytes}
 use Rattle.loans.specs.Writer.{Written}
 use Rattle.loans.specs.Replay.{End, ended, torn, stopped, Replayed, replayFrom, inBytes, replayed}
@@ -43,9 +43,9 @@ unfolding measuredAs
 distance-number (accept r) = refl
 distance-number (refuse q) = refl
 
-holder-number : (x : Answer ℕ) → holderAnswerAs x .number ≡ numberOf x
-holder-number (accept b) = refl
-holder-number (refuse q) = refl
+holder-number : (x : Answer ℕ) (looks : ℕ) → holderAnswerAs x looks .number ≡ numberOf x
+holder-number (accept b) looks = refl
+holder-number (refuse q) looks = refl
 
 -- ---- the log
 
@@ -99,7 +99,7 @@ console-numbers =
       strictTold = λ t. of-table (strict t) (strict-numbered t);
       issueTold = λ t b area. exact 23 _ (loans-register .numbers .issueNumber t b area);
       returnTold = λ t area. exact 23 _ (loans-register .numbers .returnNumber t area);
-      askTold = λ t area. rw (holder-number (askText t area)) (exact 23 _ (loans-register .numbers .askNumber t area));
+      askTold = λ t area. rw (holder-number (askText t area) (looksText t area)) (exact 23 _ (loans-register .numbers .askNumber t area));
       recordTold = λ ch log position. rw (record-number position (writeRecord ch log position)) (exact 24 _ (pending-log .writeNumber ch log position));
       recordLength = record-length;
       replayTold = λ log area. rw (replay-number (replayLog log area)) (exact 24 _ (replay-numbers log area));

@@ -1,12 +1,12 @@
 -- What the register and its log promise, over what the entries tell C and leave in the area, as their contracts have it.
 -- proofs/Loans.antt proves it.
-use Prim.Native.Nat.{ℕ}
+use Prim.Native.Nat.{ℕ, _≤_}
 use mathlib.Core.Path.{_≡_}
 use mathlib.Core.List.{List, [], _∷_, map}
-use Rattle.iscc.specs.Answer.{accept, refuse, numberOf}
+use Rattle.iscc.specs.Answer.{Answer, accept, refuse, numberOf}
 use Rattle.loans.specs.Map.{mapChanged, mapAsked}
 use Rattle.loans.specs.Calls.{Call, issue, takeBack, ask, afterwards, answers}
-use Rattle.loans.specs.Contents.{emptyRegister, issueText, returnText, askText}
+use Rattle.loans.specs.Contents.{emptyRegister, issueText, returnText, askText, looksText}
 use Rattle.loans.specs.Good.{GoodCalls}
 use Rattle.loans.specs.Replay.{replayFrom, areaReplayed}
 use Rattle.loans.specs.PendingLog.{applyToMap, replayLog}
@@ -16,11 +16,23 @@ use Rattle.console.specs.declared.lending.HolderAnswer.{HolderAnswer}
 use Rattle.console.specs.declared.logging.ReplayAnswer.{ReplayAnswer}
 use Rattle.console.specs.Representation.{holderAnswerAs, endAnswer, replayAnswerAs}
 
+-- an answer as a plain map has it, which knows no looks
+pub record CallAnswer : Type 0 where
+  pub number : ℕ
+  pub borrower : ℕ
+
+abbrev pub answerAs : Answer ℕ → CallAnswer
+answerAs (accept b) = record { number = 0; borrower = b }
+answerAs (refuse q) = record { number = q .number; borrower = 0 }
+
+abbrev pub withoutLooks : HolderAnswer → CallAnswer
+withoutLooks a = record { number = a .number; borrower = a .borrower }
+
 -- what an entry tells; an issue and a return tell no borrower
-abbrev pub told : Call → List ℕ → HolderAnswer
+abbrev pub told : Call → List ℕ → CallAnswer
 told (issue t b) area = record { number = numberOf (issueText t b area); borrower = 0 }
 told (takeBack t) area = record { number = numberOf (returnText t area); borrower = 0 }
-told (ask t) area = holderAnswerAs (askText t area)
+told (ask t) area = withoutLooks (holderAnswerAs (askText t area) (looksText t area))
 
 -- and the area after it
 abbrev pub left : Call → List ℕ → List ℕ
@@ -28,19 +40,19 @@ left (issue t b) area = afterwards area (issueText t b area)
 left (takeBack t) area = afterwards area (returnText t area)
 left (ask t) area = area
 
-abbrev pub allTold : List Call → List ℕ → List HolderAnswer
+abbrev pub allTold : List Call → List ℕ → List CallAnswer
 allTold [] area = []
 allTold (k ∷ ks) area = told k area ∷ allTold ks (left k area)
 
 -- ---- with replays among the calls
 
 pub data Heard : Type 0 where
-  ofCall : HolderAnswer → Heard
+  ofCall : CallAnswer → Heard
   ofReplay : ReplayAnswer → Heard
 
 -- what the definitions tell, as C hears it
 abbrev pub heardAs : Told → Heard
-heardAs (answered x) = ofCall (holderAnswerAs x)
+heardAs (answered x) = ofCall (answerAs x)
 heardAs (ran (accept e)) = ofReplay (endAnswer e)
 heardAs (ran (refuse q)) = ofReplay (record { number = q .number; end = 0; offset = 0 })
 
@@ -59,7 +71,9 @@ allHeard (w ∷ ws) area = heard w area ∷ allHeard ws (leaves w area)
 
 pub record ConsoleLoans : Type 0 where
   -- "Over any calls from an empty register, written by them alone, the answers are those of a plain map of at most 256 codes."
-  pub asPlainMap : (ks : List Call) → GoodCalls ks → allTold ks emptyRegister ≡ map holderAnswerAs (answers mapChanged mapAsked ks [])
+  pub asPlainMap : (ks : List Call) → GoodCalls ks → allTold ks emptyRegister ≡ map answerAs (answers mapChanged mapAsked ks [])
   -- "Over any calls and replays, in any turn, from an empty register, written by them alone, all that is told is what a plain map tells."
   pub asMap : (ws : List Operation) → GoodOperations ws
       → allHeard ws emptyRegister ≡ map heardAs (operations.allTold mapChanged mapAsked (λ log m. accept (replayFrom applyToMap 0 log m)) ws [])
+  -- "at most 9"
+  pub nine : (t area : List ℕ) → holderAnswerAs (askText t area) (looksText t area) .looks ≤ 9

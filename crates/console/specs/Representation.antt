@@ -14,10 +14,10 @@ use Rattle.console.specs.declared.distances.DistanceAnswer.{DistanceAnsw
 abbrev pub distanceAnswerAs : Measured → DistanceAnswer
 distanceAnswerAs m = record { number = m .number; d = m .distance .d; n = m .distance .n; ratio = m .distance .ratio }
 
--- who has a code: "A refusal has borrower 0."
-abbrev pub holderAnswerAs : Answer ℕ → HolderAnswer
-holderAnswerAs (accept b) = record { number = 0; borrower = b }
-holderAnswerAs (refuse q) = record { number = q .number; borrower = 0 }
+-- who has a code: "A refusal has borrower 0."; and the looks
+abbrev pub holderAnswerAs : Answer ℕ → ℕ → HolderAnswer
+holderAnswerAs (accept b) looks = record { number = 0; borrower = b; looks = looks }
+holderAnswerAs (refuse q) looks = record { number = q .number; borrower = 0; looks = looks }
 
 -- a record appended: the number, and the length that the position moved on; a refusal has length 0
 abbrev pub movedOn : ℕ → Appended → Outcome

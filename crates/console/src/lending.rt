@@ -2,15 +2,16 @@
 ghost use mathlib.Core.Path.{_≡_};
 ghost use Rattle.iscc.specs.Answer.{numberOf};
 ghost use Rattle.loans.specs.Calls.{afterwards};
-ghost use Rattle.loans.specs.Contents.{issueText, returnText, askText};
+ghost use Rattle.loans.specs.Contents.{issueText, returnText, askText, looksText};
 ghost use Rattle.console.specs.Representation.{holderAnswerAs};
 use register::answer::Holder;
 
-// Number 0 and the borrower; or a refusal and 0.
+// Number 0 and the borrower; or a refusal and 0. And how many places a question looked at.
 #[repr(C)]
 pub struct HolderAnswer {
     pub number: u32,
     pub borrower: u32,
+    pub looks: u32,
 }
 
 #[no_mangle]
@@ -33,17 +34,21 @@ pub extern "C" fn loans_return(text: &[u8], area: &mut [u8]) -> u32
 
 #[no_mangle]
 pub extern "C" fn loans_ask(text: &[u8], area: &[u8]) -> HolderAnswer
-    ensures { λ r. ⌜ r ≡ holderAnswerAs (askText (now (text .entry)) (now (area .entry))) ⌝ }
+    ensures { λ r. ⌜ r ≡ holderAnswerAs (askText (now (text .entry)) (now (area .entry))) (looksText (now (text .entry)) (now (area .entry))) ⌝ }
 {
-    let answer = register::calls::ask(text, area);
-    match answer {
+    let asked = register::calls::ask(text, area);
+    let holder = asked.holder;
+    let looks = asked.looks;
+    match holder {
         Holder::Borrower(b) => HolderAnswer {
             number: 0,
             borrower: b,
+            looks: looks,
         },
         Holder::Refused(q) => HolderAnswer {
             number: q.number,
             borrower: 0,
+            looks: looks,
         },
     }
 }

@@ -13,8 +13,10 @@ use Rattle.iscc.specs.Items.{readUpTo, readItems, bodyIn, subtypeIn, subtypeOf,
 use Rattle.iscc.specs.Doors.{isBlank, trimStart, trimEnd, scheme, schemeLength, dropHyphens, trimmed, behindScheme, cleaned, decodeRun, payload, itemsOfText, meaningOfText, codeBytes}
 use Rattle.loans.specs.Loan.{oneCode, find, without}
 use Rattle.loans.specs.Map.{changeWith}
-use Rattle.loans.specs.Place.{zeros, placeBytes, placeOf, isPlace, loansIn}
-use Rattle.loans.specs.Contents.{put, cleared, allDistinct}
+use Rattle.octets.specs.Order.{before}
+use Rattle.loans.specs.Place.{zeros, free, placeBytes, placesBytes, placeOf, isPlace}
+use Rattle.loans.specs.Order.{follows, inOrder, placed, put}
+use Rattle.loans.specs.Halving.{halving, searched}
 use Rattle.loans.specs.Fields.{fieldBytes, firstSize, firstIsWhole, firstField}
 use Rattle.loans.specs.Log.{recordsUpTo, recordsFrom}
 use Rattle.loans.specs.Replay.{replayAll}
@@ -22,7 +24,7 @@ use Rattle.loans.specs.Records.{isRecord, changeOf, applyChange}
 use Rattle.loans.specs.Examples.{Examples}
 
 pub examples : Examples
-unfolding digits value allBelow byteCount spareCount fromDigits upper indexOf digitIn decode base32 firstOf prefixOf rowOf rowBy varnibble readVarnibble nibbles packed headerBytes readHeader typeOf mainTypeOf sets setOf unitTypes compositeSubtype isWide row bodyBytes itemBytes readItem readOne cut compositeOf wideOf meaningAs unitLengthNumber flatten itemOf readUpTo readItems every pairwise bodyIn subtypeIn subtypeOf compositeFrom meaningOfItems isBlank trimStart trimEnd sameBytes scheme schemeLength dropHyphens trimmed behindScheme cleaned decodeRun payload itemsOfText meaningOfText codeBytes oneCode find without zeros placeBytes placeOf isPlace loansIn put cleared allDistinct changeWith fieldBytes firstSize firstIsWhole firstField recordsUpTo recordsFrom replayAll isRecord changeOf applyChange
+unfolding digits value allBelow byteCount spareCount fromDigits upper indexOf digitIn decode base32 firstOf prefixOf rowOf rowBy varnibble readVarnibble nibbles packed headerBytes readHeader typeOf mainTypeOf sets setOf unitTypes compositeSubtype isWide row bodyBytes itemBytes readItem readOne cut compositeOf wideOf meaningAs unitLengthNumber flatten itemOf readUpTo readItems every pairwise bodyIn subtypeIn subtypeOf compositeFrom meaningOfItems isBlank trimStart trimEnd sameBytes scheme schemeLength dropHyphens trimmed behindScheme cleaned decodeRun payload itemsOfText meaningOfText codeBytes oneCode find without before zeros free placeBytes placesBytes placeOf isPlace follows inOrder placed put halving searched changeWith fieldBytes firstSize firstIsWhole firstField recordsUpTo recordsFrom replayAll isRecord changeOf applyChange
 examples =
     record {
       place = refl;
@@ -34,12 +36,23 @@ examples =
       lengthTooLong = refl;
       twoUnits = refl;
       freeNotZero = refl;
-      lowestFree = refl;
-      holeFilled = refl;
+      rising = refl;
+      falling = refl;
+      byLength = refl;
+      twice = refl;
+      usedBehindFree = refl;
+      putBetween = refl;
+      putFirst = refl;
+      putLast = refl;
       taken = refl;
       outAlready = refl;
       notThere = refl;
-      twice = refl;
+      gapClosed = refl;
+      foundFirst = refl;
+      foundMiddle = refl;
+      foundLast = refl;
+      notFound = refl;
+      noneOut = refl;
       typedApart = refl;
       typedSmall = refl;
       typedAround = refl;

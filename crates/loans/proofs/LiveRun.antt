@@ -11,8 +11,7 @@ use Rattle.iscc.proofs.Answer.{answered, accept-inj}
 use Rattle.loans.specs.Map.{Change, issueCode, returnCode}
 use Rattle.loans.specs.Calls.{Call, issue, takeBack, ask, resultOf, issued, returned, stateAfter}
 use Rattle.loans.specs.Register.{changedArea, askedArea, callArea}
-use Rattle.loans.specs.Place.{placesBytes}
-use Rattle.loans.specs.Contents.{Contents, contentsOf, isRegister, applied, register}
+use Rattle.loans.specs.Contents.{Contents, contentsOf, isRegister, bytesOf, applied, register}
 use Rattle.loans.specs.Good.{IsCode, GoodContents, GoodChange, GoodCall, GoodCalls}
 use Rattle.loans.specs.Replay.{ended, replayFrom, replayed}
 use Rattle.loans.specs.Writer.{Written}
@@ -26,11 +25,11 @@ use Rattle.loans.proofs.PendingLog.{write-replay}
 -- ---- one call: it makes no change, or one
 
 data Made (ps : Contents) (chs : List Change) (area : List ℕ) : Type 0 where
-  nothing : chs ≡ [] → area ≡ placesBytes ps → Made ps chs area
-  change : (ch : Change) (ps′ : Contents) → GoodChange ch → applied ch ps ≡ accept ps′ → chs ≡ ch ∷ [] → area ≡ placesBytes ps′ → Made ps chs area
+  nothing : chs ≡ [] → area ≡ bytesOf ps → Made ps chs area
+  change : (ch : Change) (ps′ : Contents) → GoodChange ch → applied ch ps ≡ accept ps′ → chs ≡ ch ∷ [] → area ≡ bytesOf ps′ → Made ps chs area
 
-module _ (area : List ℕ) (ps : Contents) (b : area ≡ placesBytes ps) (h : GoodContents ps) where
-  changed-is : (ch : Change) → changedArea register ch area ≡ (applied ch ps >>= λ ps′. accept (placesBytes ps′))
+module _ (area : List ℕ) (ps : Contents) (b : area ≡ bytesOf ps) (h : GoodContents ps) where
+  changed-is : (ch : Change) → changedArea register ch area ≡ (applied ch ps >>= λ ps′. accept (bytesOf ps′))
   unfolding changedArea
   changed-is ch = rw (b, register-sound .valid ps h, register-sound .back ps h)
 
@@ -40,7 +39,7 @@ module _ (area : List ℕ) (ps : Contents) (b : area ≡ placesBytes ps) (h : Go
   text-made of f t (accept c) e = rw (changed-is (of c)) (go (applied (of c) ps) refl)
     where
       go : (y : Answer Contents) → applied (of c) ps ≡ y
-          → let r = resultOf area (y >>= λ ps′. accept (placesBytes ps′)) in Made ps (madeOf of (accept c) (r .answer)) (r .state)
+          → let r = resultOf area (y >>= λ ps′. accept (bytesOf ps′)) in Made ps (madeOf of (accept c) (r .answer)) (r .state)
       go (accept ps′) a = change (of c) ps′ (f c (code-in t c e)) a refl refl
       go (refuse q) a = nothing refl b
 
@@ -61,11 +60,11 @@ after ks area = stateAfter (changedArea register) (askedArea register) ks area
 -- the area holds what replay of the log gives
 record Follows (start : Contents) (log area : List ℕ) : Type 0 where
   contents : Contents
-  bytes : area ≡ placesBytes contents
+  bytes : area ≡ bytesOf contents
   runs : replayFrom applyRecord 0 log start ≡ record { state = contents; end = ended }
 
 run-follows : (start : Contents) (ks : List Call) (area : List ℕ) (ps : Contents) (log : List ℕ) (position : ℕ) (w : Written)
-    → area ≡ placesBytes ps → GoodContents ps → GoodCalls ks
+    → area ≡ bytesOf ps → GoodContents ps → GoodCalls ks
     → replayFrom applyRecord 0 (take position log) start ≡ record { state = ps; end = ended }
     → writeAll (made ks area) (record { log = log; position = position }) ≡ accept w
     → Follows start (take (w .position) (w .log)) (after ks area)

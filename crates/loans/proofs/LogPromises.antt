@@ -11,11 +11,11 @@ use Rattle.iscc.specs.Exactly.{RuleOn, inTurn, once}
 use Rattle.iscc.proofs.Answer.{never}
 use Rattle.iscc.proofs.Steps.{By, step-once, done}
 use Rattle.iscc.proofs.Exactly.{exactly}
-use Rattle.loans.specs.Loan.{oneCode}
+use Rattle.loans.specs.Loan.{oneCode, without}
 use Rattle.loans.specs.Map.{Change}
-use Rattle.loans.specs.Place.{loansIn}
+use Rattle.loans.specs.Order.{put}
 use Rattle.loans.specs.Register.{Register}
-use Rattle.loans.specs.Contents.{Contents, put, cleared, applied, emptyRegister, register}
+use Rattle.loans.specs.Contents.{Contents, loansOf, applied, emptyRegister, register}
 use Rattle.loans.specs.Fields.{Field, fieldBytes}
 use Rattle.loans.specs.Log.{recordsFrom}
 use Rattle.loans.specs.Replay.{replayFrom, inBytes, replayed}
@@ -66,7 +66,7 @@ record-numbers : (f : Field) (ps : Contents) (q : Refusal) → applyRecord f ps 
 unfolding applyChange
 record-numbers f ps q e =
     test-numbers 20 24 notRecord (isRecord 1 f) (applied (changeOf 1 f) ps) q (omega arith, omega arith)
-    (λ p d. let w = change-numbers loansIn put cleared (changeOf 1 f) ps p d in (w .0, omega (arith, w .1))) e
+    (λ p d. let w = change-numbers loansOf put without (changeOf 1 f) ps p d in (w .0, omega (arith, w .1))) e
 
 -- ---- all of it
 
@@ -75,7 +75,7 @@ pending-log =
     record {
       asMap = λ ws g. register-told ws emptyRegister [] g empty-held;
       tears = tears;
-      replays = replays register applyRecord (recordRules loansIn) (record-by loansIn put cleared);
+      replays = replays register applyRecord (recordRules loansOf) (record-by loansOf put without);
       writerTests = λ ch log position. exactly _ _ (write-by ch log position);
       appends = write-appends;
       readsBack = reads-back;

@@ -26,7 +26,7 @@ place-test (suc n) bs (suc i) h e =
     ap (λ (xs : List ℕ). isPlace (take 48 xs)) (ap (λ (j : ℕ). drop j bs) k ∙ sym (drop-drop (48 * i) 48 bs))
     ∙ place-test n (drop 48 bs) i (le-of-suc-le-suc h) (both-true (isPlace (take 48 bs)) (arePlaces n (drop 48 bs)) e .1)
 
-short-place : (bs : List ℕ) → isPlace bs ≡ true → getD bs 0 0 ≤ 42
+pub short-place : (bs : List ℕ) → isPlace bs ≡ true → getD bs 0 0 ≤ 42
 unfolding isPlace
 short-place bs e = go (eqb (getD bs 0 0) 0) refl e
   where

@@ -20,21 +20,21 @@ use Rattle.iscc.proofs.Exactly.{exactly}
 use Rattle.loans.specs.Loan.{Loan, isOut, isSome, without, find, oneCode}
 use Rattle.loans.specs.Map.{Change, returnCode, changeWith, mapChanged, mapAsked, holderOf, issueCode}
 use Rattle.loans.specs.Calls.{Call, issue, takeBack, ask, stateAfter, resultOf, issued, returned, borrowerOf}
-use Rattle.loans.specs.Place.{placesBytes, placesOf, loansIn}
+use Rattle.loans.specs.Order.{put}
+use Rattle.loans.specs.Halving.{searched, borrowerFound, askedLoans}
 use Rattle.loans.specs.Register.{Register, changedArea, askedArea}
-use Rattle.loans.specs.Contents.{Contents, isRegister, put, cleared, applied, register, emptyRegister}
+use Rattle.loans.specs.Contents.{Contents, loansOf, contentsOf, isRegister, bytesOf, applied, register, emptyRegister}
 use Rattle.loans.specs.Good.{GoodContents, GoodCalls}
 use Rattle.loans.specs.RefusalOrder.{changeStages}
 use Rattle.loans.specs.Promises.{LoansRegister, StaysRegister, KeptWhereRefused, CallTests, CallNumbers, RoomAgain}
 use Rattle.loans.proofs.Loan.{code-in, code-text, length-without}
-use Rattle.loans.proofs.Places.{loans-most}
-use Rattle.loans.proofs.PlaceAt.{count-places}
-use Rattle.loans.proofs.Contents.{HeldContents, HoldsContents, register-sound, empty-held, register-alike, register-changes, register-asks, cleared-kept, cleared-loans}
+use Rattle.loans.proofs.Contents.{HeldContents, HoldsContents, contents-rising, register-sound, empty-held, register-alike, register-changes, asks-find, register-asks, without-kept}
 use Rattle.loans.proofs.RefusalOrder.{change-by, issue-by, return-by, question-by}
 use Rattle.loans.proofs.Calls.{is-valid}
 use Rattle.loans.proofs.Entries.{one-entry}
 use Rattle.loans.proofs.Numbers.{Within, text-numbers, change-numbers, answer-numbers, issue-numbers, return-numbers, ask-numbers, never-23}
-use Rattle.loans.proofs.Writes.{issue-writes, return-writes}
+use Rattle.loans.proofs.Order.{rising-distinct}
+use Rattle.loans.proofs.OrderedPlaces.{loans-few}
 
 -- ---- of any register
 
@@ -64,26 +64,24 @@ at-most : (ks : List Call) → GoodCalls ks → length (stateAfter mapChanged ma
 at-most ks g =
     let h : HoldsContents (stateAfter (changedArea register) (askedArea register) ks emptyRegister) (stateAfter mapChanged mapAsked ks []) =
     register-alike ks emptyRegister [] g empty-held .state in
-    let n : length (h .contents) ≡ 256 = h .held .good .count in
-    let z : length (loansIn (h .contents)) ≡ length (stateAfter mapChanged mapAsked ks []) = h .held .same .sizes in
-    let m : length (loansIn (h .contents)) ≤ length (h .contents) = loans-most (h .contents) in
+    let n : length (h .contents) ≤ 256 = h .held .good .count in
+    let z : length (h .contents) ≡ length (stateAfter mapChanged mapAsked ks []) = h .held .same .sizes in
     omega arith
 
 -- what may stand in a place
 codes : (c : List ℕ) → Below 256 c → (oneCode c ≡ true) ↔ ((t : List ℕ) × (codeBytes t ≡ accept c))
 codes c k = (code-text c k, λ w. code-in (w .0) c (w .1) .one)
 
-own : (ch : Change) (ps : Contents) (q : Refusal) → applied ch ps ≡ refuse q → Within 20 22 q
-own ch ps = change-numbers loansIn put cleared ch ps
+own : (ch : Change) (ls : Contents) (q : Refusal) → applied ch ls ≡ refuse q → Within 20 22 q
+own ch ls = change-numbers loansOf put without ch ls
 
-asks : (c : List ℕ) (ps : Contents) (q : Refusal) → mapAsked c (loansIn ps) ≡ refuse q → Within 20 22 q
-unfolding mapAsked
-asks c ps = answer-numbers (find c (loansIn ps))
+asks : (c : List ℕ) (ls : Contents) (q : Refusal) → askedLoans c ls ≡ refuse q → Within 20 22 q
+asks c ls = answer-numbers (borrowerFound (searched c ls) ls)
 
 stays : StaysRegister register emptyRegister
 stays =
     let v : (ks : List Call) → GoodCalls ks → isRegister (stateAfter (changedArea register) (askedArea register) ks emptyRegister) ≡ true =
-    λ ks g. is-valid register GoodContents register-sound HeldContents (λ ps m h. h .good) _ _ (register-alike ks emptyRegister [] g empty-held .state) in
+    λ ks g. is-valid register GoodContents register-sound HeldContents (λ ls m h. h .good) _ _ (register-alike ks emptyRegister [] g empty-held .state) in
     record {
       valid = v;
       never =
@@ -94,22 +92,22 @@ stays =
 -- a return leaves a place, so that an issue of a code that is not out is accepted
 code-room : (c d : List ℕ) (b : ℕ) (area area′ : List ℕ) → Below 256 area → changedArea register (returnCode c) area ≡ accept area′
     → askedArea register d area′ ≡ refuse notOut → Accepted (changedArea register (issueCode d b) area′)
-unfolding changedArea changeWith askedArea mapAsked
+unfolding changedArea changeWith askedArea
 code-room c d b area area′ k e n =
+    let ls : Contents = contentsOf area in
     let p = passed (isRegister area) notRegister _ e in
-    let a = answered (applied (returnCode c) (placesOf 256 area)) (λ s. accept (placesBytes s)) (p .1) in
-    let q = passed (isOut c (loansIn (placesOf 256 area))) notOut _ (a .1) in
-    let g = cleared-kept c (placesOf 256 area) (register-sound .good area k (p .0)) .0 in
-    let z : placesBytes (cleared c (placesOf 256 area)) ≡ area′ = ap placesBytes (accept-inj (q .1)) ∙ accept-inj (a .2) in
-    let v : isRegister area′ ≡ true = ap isRegister (sym z) ∙ register-sound .valid (cleared c (placesOf 256 area)) g in
-    let h : placesOf 256 area′ ≡ cleared c (placesOf 256 area) = ap (placesOf 256) (sym z) ∙ register-sound .back (cleared c (placesOf 256 area)) g in
-    let l : loansIn (placesOf 256 area′) ≡ without c (loansIn (placesOf 256 area)) = ap loansIn h ∙ cleared-loans c (placesOf 256 area) in
-    let w : suc (length (without c (loansIn (placesOf 256 area)))) ≡ length (loansIn (placesOf 256 area)) = length-without c (loansIn (placesOf 256 area)) (q .0) in
-    let m : length (loansIn (placesOf 256 area)) ≤ length (placesOf 256 area) = loans-most (placesOf 256 area) in
-    let f : length (placesOf 256 area) ≡ 256 = count-places 256 area in
-    let i : length (loansIn (placesOf 256 area′)) ≡ length (without c (loansIn (placesOf 256 area))) = ap length l in
-    let r : ltb (length (loansIn (placesOf 256 area′))) 256 ≡ true = lt-ltb (length (loansIn (placesOf 256 area′))) 256 (omega arith) in
-    let o : isOut d (loansIn (placesOf 256 area′)) ≡ false = ap isSome (none-by (find d (loansIn (placesOf 256 area′))) (rw v at n)) in
+    let a = answered (applied (returnCode c) ls) (λ s. accept (bytesOf s)) (p .1) in
+    let q = passed (isOut c ls) notOut _ (a .1) in
+    let g = without-kept c ls (register-sound .good area k (p .0)) .0 in
+    let z : bytesOf (without c ls) ≡ area′ = ap bytesOf (accept-inj (q .1)) ∙ accept-inj (a .2) in
+    let v : isRegister area′ ≡ true = ap isRegister (sym z) ∙ register-sound .valid (without c ls) g in
+    let h : contentsOf area′ ≡ without c ls = ap contentsOf (sym z) ∙ register-sound .back (without c ls) g in
+    let w : suc (length (without c ls)) ≡ length ls = length-without c ls (q .0) in
+    let m : length ls ≤ 256 = loans-few area in
+    let i : length (contentsOf area′) ≡ length (without c ls) = ap length h in
+    let r : ltb (length (contentsOf area′)) 256 ≡ true = lt-ltb (length (contentsOf area′)) 256 (omega arith) in
+    let x : holderOf (find d (contentsOf area′)) ≡ refuse notOut = sym (asks-find d (contentsOf area′) (contents-rising area′ v)) ∙ (rw v at n) in
+    let o : isOut d (contentsOf area′) ≡ false = ap isSome (none-by (find d (contentsOf area′)) x) in
     rw (v, o, r) tt
   where
     none-by : (o : Option ℕ) → holderOf o ≡ refuse notOut → o ≡ none
@@ -134,20 +132,19 @@ numbers =
     }
 
 pub loans-register : LoansRegister
-unfolding mapAsked
 loans-register =
     record {
       asPlainMap = λ ks g. register-alike ks emptyRegister [] g empty-held .given;
       atMost = at-most;
       aMap = λ ks g. register-alike ks emptyRegister [] g empty-held .state .held .distinct;
       stays = stays;
-      oneEntry = one-entry register loansIn GoodContents register-sound (λ ps g. g .distinct) register-changes register-asks;
-      lowestPlace = issue-writes;
-      zeroedPlace = return-writes;
+      oneEntry = one-entry register loansOf GoodContents register-sound (λ ls g. rising-distinct ls (g .order)) register-changes register-asks;
       roomAgain = room-again;
       codes = codes;
       areas = register-sound;
-      tests = call-tests register (λ ch ps. changeStages ch (loansIn ps)) loansIn (λ ch ps. change-by loansIn put cleared ch ps) (λ c area v. refl);
+      tests =
+          call-tests register (λ ch ls. changeStages ch (loansOf ls)) loansOf (λ ch ls. change-by loansOf put without ch ls)
+          (λ c area v. asks-find c (contentsOf area) (contents-rising area v));
       numbers = numbers;
       kept = kept register;
     }

@@ -1,58 +1,43 @@
--- The loans register: 256 places in no order, which areas are one, and its three calls.
+-- The loans register: 256 places in order, which areas are one, and its three calls.
 use Prim.Native.Nat.{ℕ}
-use mathlib.Core.Bool.{Bool, true, cond, not, _&&_}
-use mathlib.Core.Option.{Option, none, some}
-use mathlib.Core.List.{List, [], _∷_}
+use mathlib.Core.Bool.{Bool, _&&_}
+use mathlib.Core.List.{List}
 use lib.ListN.{length}
 use lib.Dec.{eqb}
-use Rattle.iscc.specs.Answer.{Answer}
-use Rattle.iscc.specs.Lists.{sameBytes}
-use Rattle.loans.specs.Loan.{Loan, isOut}
-use Rattle.loans.specs.Map.{Change, changeWith, mapAsked}
+use Rattle.iscc.specs.Refusals.{notRegister}
+use Rattle.iscc.specs.Answer.{Answer, accept, refuse, _>>=_, _>>_, _otherwise_}
+use Rattle.iscc.specs.Doors.{codeBytes}
+use Rattle.loans.specs.Loan.{Loan, without}
+use Rattle.loans.specs.Map.{Change, changeWith}
 use Rattle.loans.specs.Calls.{issued, returned, borrowerOf}
-use Rattle.loans.specs.Place.{zeros, placesBytes, placesOf, arePlaces, loansIn}
+use Rattle.loans.specs.Place.{zeros, placesBytes}
+use Rattle.loans.specs.Order.{placed, areOrdered, loansAt, put}
+use Rattle.loans.specs.Halving.{looks, askedLoans}
 use Rattle.loans.specs.Register.{Register, changedArea, askedArea}
 
--- what a register holds: a loan in each used place
+-- what a register holds: the loans, in rising order of their codes
 abbrev pub Contents : Type 0
-Contents = List (Option Loan)
+Contents = List Loan
+
+abbrev pub loansOf : Contents → List Loan
+loansOf ls = ls
 
 abbrev pub contentsOf : List ℕ → Contents
-contentsOf area = placesOf 256 area
+contentsOf area = loansAt area
 
--- "No code stands in two places."
-unfoldable pub allDistinct : List Loan → Bool
-allDistinct [] = true
-allDistinct (l ∷ ls) = not (isOut (l .code) ls) && allDistinct ls
-
--- 23 unless the area "has 12,288 bytes", is 256 places, and has no code twice
+-- 23 unless the area "has 12,288 bytes", and is 256 places in order
 unfoldable pub isRegister : List ℕ → Bool
-isRegister area = eqb (length area) 12288 && arePlaces 256 area && allDistinct (loansIn (contentsOf area))
+isRegister area = eqb (length area) 12288 && areOrdered area
 
--- "An issue takes the lowest free place."
-unfoldable pub put : Loan → Contents → Contents
-put l [] = []
-put l (none ∷ ps) = some l ∷ ps
-put l (some k ∷ ps) = some k ∷ put l ps
+unfoldable pub bytesOf : Contents → List ℕ
+bytesOf ls = placesBytes (placed 256 ls)
 
--- "A return fills its place with zeros."
-unfoldable pub cleared : List ℕ → Contents → Contents
-cleared c [] = []
-cleared c (none ∷ ps) = none ∷ cleared c ps
-cleared c (some l ∷ ps) = cond (sameBytes c (l .code)) (none ∷ ps) (some l ∷ cleared c ps)
-
+-- "A return closes its gap.": a place is free only behind those that are used
 abbrev pub applied : Change → Contents → Answer Contents
-applied ch ps = changeWith loansIn put cleared ch ps
+applied ch ls = changeWith loansOf put without ch ls
 
 abbrev pub register : Register Contents
-register =
-    record {
-      valid = isRegister;
-      contents = contentsOf;
-      bytes = placesBytes;
-      changes = applied;
-      asks = λ c ps. mapAsked c (loansIn ps);
-    }
+register = record { valid = isRegister; contents = contentsOf; bytes = bytesOf; changes = applied; asks = askedLoans }
 
 -- "An empty register is an area of zeros."
 abbrev pub emptyRegister : List ℕ
@@ -68,3 +53,15 @@ returnText t area = returned (changedArea register) t area
 
 abbrev pub askText : List ℕ → List ℕ → Answer ℕ
 askText t area = borrowerOf (askedArea register) t area
+
+-- ---- how many places a question looked at: "So does a question's 22"; its other refusals report 0
+
+abbrev pub reported : Answer ℕ → ℕ
+reported (accept n) = n
+reported (refuse q) = 0
+
+unfoldable pub looksText : List ℕ → List ℕ → ℕ
+looksText t area = reported (do
+  c ← codeBytes t
+  isRegister area otherwise notRegister
+  accept (looks c (loansOf (contentsOf area))))

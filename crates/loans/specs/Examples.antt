@@ -9,10 +9,12 @@ use Rattle.iscc.specs.Refusals.{alreadyOut, notOut, notRecord}
 use Rattle.iscc.specs.Answer.{accept, refuse}
 use Rattle.iscc.specs.Ascii.{ascii}
 use Rattle.iscc.specs.Doors.{codeBytes}
-use Rattle.loans.specs.Loan.{loanOf}
+use Rattle.loans.specs.Loan.{Loan, loanOf}
 use Rattle.loans.specs.Map.{issueCode, returnCode}
-use Rattle.loans.specs.Place.{zeros, placeBytes, placeOf, isPlace}
-use Rattle.loans.specs.Contents.{applied, allDistinct}
+use Rattle.loans.specs.Place.{zeros, placeBytes, placesBytes, placeOf, isPlace}
+use Rattle.loans.specs.Order.{inOrder, placed}
+use Rattle.loans.specs.Halving.{searched}
+use Rattle.loans.specs.Contents.{applied}
 use Rattle.loans.specs.Fields.{Field, fieldBytes}
 use Rattle.loans.specs.Log.{Record, Records, recordsFrom}
 use Rattle.loans.specs.Replay.{stopped, replayFrom}
@@ -34,6 +36,17 @@ abbrev pub wideLabel : List ℕ
 wideLabel =
     0x57 ∷ 0 ∷ 0 ∷ 1 ∷ 2 ∷ 3 ∷ 4 ∷ 5 ∷ 6 ∷ 7 ∷ 8 ∷ 9 ∷ 10 ∷ 11 ∷ 12 ∷ 13 ∷ 14 ∷ 15
     ∷ 16 ∷ 17 ∷ 18 ∷ 19 ∷ 20 ∷ 21 ∷ 22 ∷ 23 ∷ 24 ∷ 25 ∷ 26 ∷ 27 ∷ 28 ∷ 29 ∷ 30 ∷ 31 ∷ []
+
+-- an ID
+abbrev pub id : List ℕ
+id = 0x60 ∷ 0 ∷ 1 ∷ 2 ∷ 3 ∷ 4 ∷ 5 ∷ 6 ∷ 7 ∷ 8 ∷ []
+
+-- four of them out, in rising order
+abbrev pub four : List Loan
+four = loanOf one 1 ∷ loanOf two 2 ∷ loanOf label 3 ∷ loanOf id 4 ∷ []
+
+abbrev pub bytesUpTo : ℕ → List Loan → List ℕ
+bytesUpTo n ls = placesBytes (placed n ls)
 
 -- "The first label of Labels, issued to borrower 258 and then taken back"
 abbrev pub labelOut : Field
@@ -65,12 +78,26 @@ pub record Examples : Type 0 where
   pub lengthTooLong : isPlace (7 ∷ one ++ zeros 41) ≡ false
   pub twoUnits : isPlace (12 ∷ one ++ two ++ zeros 35) ≡ false
   pub freeNotZero : isPlace (zeros 47 ++ (1 ∷ [])) ≡ false
-  pub lowestFree : applied (issueCode two 9) (some (loanOf one 1) ∷ none ∷ none ∷ []) ≡ accept (some (loanOf one 1) ∷ some (loanOf two 9) ∷ none ∷ [])
-  pub holeFilled : applied (issueCode two 9) (none ∷ some (loanOf one 1) ∷ none ∷ []) ≡ accept (some (loanOf two 9) ∷ some (loanOf one 1) ∷ none ∷ [])
-  pub taken : applied (returnCode one) (some (loanOf one 1) ∷ some (loanOf two 9) ∷ []) ≡ accept (none ∷ some (loanOf two 9) ∷ [])
-  pub outAlready : applied (issueCode one 9) (some (loanOf one 1) ∷ none ∷ []) ≡ refuse alreadyOut
-  pub notThere : applied (returnCode two) (some (loanOf one 1) ∷ none ∷ []) ≡ refuse notOut
-  pub twice : allDistinct (loanOf one 1 ∷ loanOf two 1 ∷ loanOf one 2 ∷ []) ≡ false
+  -- "behind a free one a free one alone, behind a used one also one whose code comes later"; "the length byte takes no part"
+  pub rising : inOrder (some (loanOf one 1) ∷ some (loanOf two 1) ∷ some (loanOf label 1) ∷ some (loanOf wideLabel 1) ∷ some (loanOf id 1) ∷ none ∷ []) ≡ true
+  pub falling : inOrder (some (loanOf two 1) ∷ some (loanOf one 1) ∷ none ∷ []) ≡ false
+  pub byLength : inOrder (some (loanOf one 1) ∷ some (loanOf id 1) ∷ some (loanOf label 1) ∷ none ∷ []) ≡ false
+  pub twice : inOrder (some (loanOf one 1) ∷ some (loanOf one 2) ∷ none ∷ []) ≡ false
+  pub usedBehindFree : inOrder (some (loanOf one 1) ∷ none ∷ some (loanOf two 1) ∷ []) ≡ false
+  -- an issue makes room at its place in the order, and a return closes its gap
+  pub putBetween : applied (issueCode label 9) (loanOf one 1 ∷ loanOf id 2 ∷ []) ≡ accept (loanOf one 1 ∷ loanOf label 9 ∷ loanOf id 2 ∷ [])
+  pub putFirst : applied (issueCode one 9) (loanOf two 1 ∷ []) ≡ accept (loanOf one 9 ∷ loanOf two 1 ∷ [])
+  pub putLast : applied (issueCode id 9) (loanOf one 1 ∷ []) ≡ accept (loanOf one 1 ∷ loanOf id 9 ∷ [])
+  pub taken : applied (returnCode one) (loanOf one 1 ∷ loanOf two 9 ∷ []) ≡ accept (loanOf two 9 ∷ [])
+  pub outAlready : applied (issueCode one 9) (loanOf one 1 ∷ []) ≡ refuse alreadyOut
+  pub notThere : applied (returnCode two) (loanOf one 1 ∷ []) ≡ refuse notOut
+  pub gapClosed : bytesUpTo 3 (loanOf two 9 ∷ []) ≡ placeBytes (some (loanOf two 9)) ++ zeros 96
+  -- the middle of four places is place 2, of the two before it place 1, of the one behind it place 3
+  pub foundFirst : searched one four ≡ record { looked = 2 ∷ 1 ∷ 0 ∷ []; found = true; place = 0 }
+  pub foundMiddle : searched label four ≡ record { looked = 2 ∷ []; found = true; place = 2 }
+  pub foundLast : searched id four ≡ record { looked = 2 ∷ 3 ∷ []; found = true; place = 3 }
+  pub notFound : searched wideLabel four ≡ record { looked = 2 ∷ 3 ∷ []; found = false; place = 3 }
+  pub noneOut : searched one [] ≡ record { looked = []; found = false; place = 0 }
   -- one label in three spellings: separate units with a hyphen, small letters, units in the other order
   pub typedApart : codeBytes (ascii "GAAW2PRCRS5LNVZV-IAAUVACQKXE3V44W") ≡ accept label
   pub typedSmall : codeBytes (ascii "iscc:kuag2prcrs5lnvzvjkafavojxlzzm") ≡ accept label
@@ -78,7 +105,7 @@ pub record Examples : Type 0 where
   -- a wide composite: typed, in its place, and issued by its record
   pub wideTyped : codeBytes (ascii "k4aaaaicamcakbqhbaequcymbuha-6earcijrifiwc4mbsgq3dqor4hy") ≡ accept wideLabel
   pub widePlace : isPlace (34 ∷ wideLabel ++ zeros 9 ++ (0 ∷ 0 ∷ 1 ∷ 2 ∷ [])) ≡ true
-  pub wideIssued : applyRecord (record { tag = 1; body = 0 ∷ 0 ∷ 1 ∷ 2 ∷ wideLabel }) (none ∷ []) ≡ accept (some (loanOf wideLabel 258) ∷ [])
+  pub wideIssued : applyRecord (record { tag = 1; body = 0 ∷ 0 ∷ 1 ∷ 2 ∷ wideLabel }) [] ≡ accept (loanOf wideLabel 258 ∷ [])
   -- the log of the label, and its cuts: before it, one byte before the first record's end, there, one byte later, and all of it
   pub labelWritten : fieldBytes labelOut ++ fieldBytes labelBack ≡ labelLog
   pub cutAt0 : recordsFrom 0 (take 0 labelLog) ≡ untorn []
@@ -91,9 +118,9 @@ pub record Examples : Type 0 where
   pub lengthDamaged : recordsFrom 0 (take 25 labelLog ++ 2 ∷ 0 ∷ 0x13 ∷ label) ≡ tornAt 25 (recordAt 0 labelOut ∷ [])
   -- "Zeros behind it would be read as a record of tag 0 and length 0, which is 24."
   pub zerosWhole : recordsFrom 0 (zeros 3) ≡ untorn (recordAt 0 (record { tag = 0; body = [] }) ∷ [])
-  pub zerosNoRecord : applyRecord (record { tag = 0; body = [] }) (none ∷ []) ≡ refuse notRecord
-  pub otherTag : applyRecord (record { tag = 3; body = label }) (none ∷ []) ≡ refuse notRecord
-  pub issueShort : applyRecord (record { tag = 1; body = 0 ∷ 0 ∷ 1 ∷ [] }) (none ∷ []) ≡ refuse notRecord
+  pub zerosNoRecord : applyRecord (record { tag = 0; body = [] }) [] ≡ refuse notRecord
+  pub otherTag : applyRecord (record { tag = 3; body = label }) [] ≡ refuse notRecord
+  pub issueShort : applyRecord (record { tag = 1; body = 0 ∷ 0 ∷ 1 ∷ [] }) [] ≡ refuse notRecord
   -- one code issued twice: the first stays applied
-  pub issuedTwice : replayFrom applyRecord 0 (fieldBytes labelOut ++ fieldBytes (recordOf (issueCode label 1)) ++ fieldBytes labelBack) (none ∷ none ∷ [])
-      ≡ record { state = some (loanOf label 258) ∷ none ∷ []; end = stopped alreadyOut 25 }
+  pub issuedTwice : replayFrom applyRecord 0 (fieldBytes labelOut ++ fieldBytes (recordOf (issueCode label 1)) ++ fieldBytes labelBack) []
+      ≡ record { state = loanOf label 258 ∷ []; end = stopped alreadyOut 25 }

@@ -1,5 +1,5 @@
--- What registers hold: 256 places, each free or with a permitted code and a 32-bit borrower, and no code twice. The promises are
--- stated over these.
+-- What registers hold: at most 256 loans, each of a permitted code to a 32-bit borrower, in rising order of their codes. The promises
+-- are stated over these.
 use Prim.Native.Nat.{ℕ, _≤_, _<_}
 use mathlib.Core.Path.{_≡_}
 use mathlib.Core.Bool.{true}
@@ -10,9 +10,9 @@ use Rattle.iscc.specs.Digits.{Below}
 use Rattle.loans.specs.Loan.{Loan, loanOf, oneCode, find}
 use Rattle.loans.specs.Map.{Change, issueCode, returnCode}
 use Rattle.loans.specs.Calls.{Call, issue, takeBack, ask}
-use Rattle.loans.specs.Place.{loansIn}
+use Rattle.octets.specs.Order.{before}
 use Rattle.loans.specs.Register.{Register}
-use Rattle.loans.specs.Contents.{Contents}
+use Rattle.loans.specs.Contents.{Contents, loansOf}
 
 -- a code as it stands in a register: the bytes of one permitted unit or composite
 pub record IsCode (c : List ℕ) : Type 0 where
@@ -33,15 +33,28 @@ abbrev pub GoodPlaces : List (Option Loan) → Type 0
 GoodPlaces [] = Unit {0}
 GoodPlaces (p ∷ ps) = GoodPlace p × GoodPlaces ps
 
+abbrev pub GoodLoans : List Loan → Type 0
+GoodLoans [] = Unit {0}
+GoodLoans (l ∷ ls) = GoodLoan l × GoodLoans ls
+
 -- no code stands twice
 abbrev pub Distinct : List Loan → Type 0
 Distinct [] = Unit {0}
 Distinct (l ∷ ls) = (find (l .code) ls ≡ none) × Distinct ls
 
-pub record GoodContents (ps : Contents) : Type 0 where
-  pub count : length ps ≡ 256
-  pub places : GoodPlaces ps
-  pub distinct : Distinct (loansIn ps)
+-- each code comes before all that are behind it
+abbrev pub AllBehind : List ℕ → List Loan → Type 0
+AllBehind c [] = Unit {0}
+AllBehind c (l ∷ ls) = (before c (l .code) ≡ true) × AllBehind c ls
+
+abbrev pub Rising : List Loan → Type 0
+Rising [] = Unit {0}
+Rising (l ∷ ls) = AllBehind (l .code) ls × Rising ls
+
+pub record GoodContents (ls : Contents) : Type 0 where
+  pub count : length (loansOf ls) ≤ 256
+  pub loans : GoodLoans (loansOf ls)
+  pub order : Rising (loansOf ls)
 
 abbrev pub GoodChange : Change → Type 0
 GoodChange (issueCode c b) = GoodLoan (loanOf c b)

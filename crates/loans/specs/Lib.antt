@@ -3,12 +3,15 @@ pub mod Loan
 pub mod Map
 pub mod Calls
 pub mod Place
+pub mod Order
+pub mod Halving
 pub mod Register
 pub mod Contents
 pub mod Good
 pub mod RefusalOrder
 pub mod Moves
 pub mod Promises
+pub mod OrderPromises
 pub mod Fields
 pub mod Log
 pub mod Replay

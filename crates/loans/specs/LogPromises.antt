@@ -11,9 +11,8 @@ use Rattle.iscc.specs.Digits.{Below}
 use Rattle.iscc.specs.Exactly.{RuleOn, Exactly, once}
 use Rattle.loans.specs.Map.{Change, mapChanged, mapAsked}
 use Rattle.loans.specs.Calls.{Call, stateAfter}
-use Rattle.loans.specs.Place.{loansIn}
 use Rattle.loans.specs.Register.{Register, changedArea, askedArea}
-use Rattle.loans.specs.Contents.{register, isRegister, emptyRegister}
+use Rattle.loans.specs.Contents.{register, loansOf, isRegister, emptyRegister}
 use Rattle.loans.specs.Good.{GoodCalls}
 use Rattle.loans.specs.Fields.{Field, fieldBytes}
 use Rattle.loans.specs.Log.{recordsFrom, laid}
@@ -52,7 +51,7 @@ AsMapReplayed r apply empty change question applyM emptyM =
 pub record PendingLog : Type 1 where
   pub asMap : AsMapReplayed register applyRecord emptyRegister mapChanged mapAsked applyToMap []
   pub tears : Tears
-  pub replays : Replays register applyRecord (recordRules loansIn)
+  pub replays : Replays register applyRecord (recordRules loansOf)
   -- the writer: 24, then 15
   pub writerTests : (ch : Change) (log : List ℕ) (position : ℕ) → Exactly (writeStages ch log position) (writeRecord ch log position)
   -- "The record is written at the position, and the next position is behind it. No byte elsewhere is written."

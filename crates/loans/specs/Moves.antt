@@ -1,32 +1,18 @@
--- Places by their number in the register, and what is written over an area.
-use Prim.Native.Nat.{ℕ, suc, _+_}
-use mathlib.Core.Bool.{Bool, false, cond}
-use mathlib.Core.Option.{Option, none, some}
-use mathlib.Core.List.{List, [], _∷_, _++_}
+-- What is written over an area: bytes in place of others, a place put in, a place taken out.
+use Prim.Native.Nat.{ℕ, _+_, _-_}
+use mathlib.Core.List.{List, _++_}
 use lib.ListN.{length, take, drop}
-use Rattle.iscc.specs.Lists.{sameBytes}
-use Rattle.loans.specs.Loan.{Loan}
-use Rattle.loans.specs.Contents.{Contents}
+use Rattle.loans.specs.Place.{zeros}
 
 -- bytes written over an area's own, from an offset on
 unfoldable pub pasted : ℕ → List ℕ → List ℕ → List ℕ
 pasted offset bs area = take offset area ++ (bs ++ drop (offset + length bs) area)
 
--- a place holds a code
-abbrev pub holdsCode : List ℕ → Option Loan → Bool
-holdsCode c none = false
-holdsCode c (some l) = sameBytes c (l .code)
+-- bytes put in at an offset: those from there up to the end move on behind them, over as many as are put in
+unfoldable pub putIn : ℕ → ℕ → List ℕ → List ℕ → List ℕ
+putIn offset end bs area = take offset area ++ (bs ++ (take (end - offset) (drop offset area) ++ drop (end + length bs) area))
 
--- the first place that holds a code, and the lowest free place; their count where there is none
-unfoldable pub placeOfCode : List ℕ → Contents → ℕ
-placeOfCode c [] = 0
-placeOfCode c (p ∷ ps) = cond (holdsCode c p) 0 (suc (placeOfCode c ps))
-
-unfoldable pub lowestFree : Contents → ℕ
-lowestFree [] = 0
-lowestFree (none ∷ ps) = 0
-lowestFree (some l ∷ ps) = suc (lowestFree ps)
-
--- one place put in another's stead
-abbrev pub placePut : ℕ → Option Loan → Contents → Contents
-placePut k p ps = take k ps ++ p ∷ drop (suc k) ps
+-- so many bytes taken out at an offset: those behind them up to the end move back, and zeros follow
+unfoldable pub takenOut : ℕ → ℕ → ℕ → List ℕ → List ℕ
+takenOut offset count end area =
+    take offset area ++ (take (end - (offset + count)) (drop (offset + count) area) ++ (zeros count ++ drop end area))

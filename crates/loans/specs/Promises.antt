@@ -1,26 +1,23 @@
 -- What is promised of the loans register, a field for each sentence; the file of this name in proofs/ proves it. A byte string is a
 -- list with `Below 256`.
-use Prim.Native.Nat.{ℕ, _+_, _*_, _≤_, _<_}
+use Prim.Native.Nat.{ℕ, _≤_, _<_}
 use mathlib.Core.Path.{_≡_}
 use mathlib.Core.Logic.{_↔_}
 use mathlib.Core.Bool.{true}
-use mathlib.Core.Option.{some}
 use mathlib.Core.List.{List, []}
-use lib.ListN.{length, getD, take, drop}
+use lib.ListN.{length}
 use Rattle.iscc.specs.Refusals.{Refusal, notOut, notRegister}
 use Rattle.iscc.specs.Answer.{accept, refuse, Accepted}
 use Rattle.iscc.specs.Digits.{Below}
 use Rattle.iscc.specs.Exactly.{Rule, Exactly}
 use Rattle.iscc.specs.Doors.{meaningOfText, codeBytes, intake}
-use Rattle.loans.specs.Loan.{Loan, loanOf, oneCode}
+use Rattle.loans.specs.Loan.{Loan, oneCode}
 use Rattle.loans.specs.Map.{Change, issueCode, returnCode, mapChanged, mapAsked}
 use Rattle.loans.specs.Calls.{Call, answers, stateAfter, issued, returned, borrowerOf}
-use Rattle.loans.specs.Place.{zeros, placeBytes, loansIn}
 use Rattle.loans.specs.Register.{Register, changedArea, askedArea, callArea}
-use Rattle.loans.specs.Contents.{register, emptyRegister, issueText, returnText}
+use Rattle.loans.specs.Contents.{register, emptyRegister, loansOf}
 use Rattle.loans.specs.Good.{Distinct, GoodContents, GoodCalls, Sound}
 use Rattle.loans.specs.RefusalOrder.{changeStages, changeCallStages, askStages}
-use Rattle.loans.specs.Moves.{pasted}
 
 -- ---- of any register
 
@@ -78,22 +75,6 @@ RoomAgain r = (t u : List ℕ) (b : ℕ) (area area′ : List ℕ) → Below 256
 
 -- ---- of this one
 
--- "An issue takes the lowest free place.": every lower place is used, and the loan's 48 bytes are all that is written
-pub record IssueWrites (c : List ℕ) (b : ℕ) (area area′ : List ℕ) : Type 0 where
-  pub place : ℕ
-  pub within : place < 256
-  pub free : getD area (48 * place) 0 ≡ 0
-  pub lowest : (j : ℕ) → j < place → 0 < getD area (48 * j) 0
-  pub bytes : area′ ≡ pasted (48 * place) (placeBytes (some (loanOf c b))) area
-
--- "A return fills its place with zeros.": the place that has the code, and nothing else is written
-pub record ReturnWrites (c area area′ : List ℕ) : Type 0 where
-  pub place : ℕ
-  pub within : place < 256
-  pub size : getD area (48 * place) 0 ≡ length c
-  pub code : take (length c) (drop (48 * place + 1) area) ≡ c
-  pub bytes : area′ ≡ pasted (48 * place) (zeros 48) area
-
 pub record LoansRegister : Type 1 where
   pub asPlainMap : AsPlainMap register emptyRegister
   -- "a plain map of at most 256 codes": none of which it has twice
@@ -101,13 +82,11 @@ pub record LoansRegister : Type 1 where
   pub aMap : (ks : List Call) → GoodCalls ks → Distinct (stateAfter mapChanged mapAsked ks [])
   pub stays : StaysRegister register emptyRegister
   pub oneEntry : OneEntry register
-  pub lowestPlace : (t c : List ℕ) (b : ℕ) (area area′ : List ℕ) → Below 256 area → codeBytes t ≡ accept c → issueText t b area ≡ accept area′ → IssueWrites c b area area′
-  pub zeroedPlace : (t c area area′ : List ℕ) → Below 256 area → codeBytes t ≡ accept c → returnText t area ≡ accept area′ → ReturnWrites c area area′
   pub roomAgain : RoomAgain register
   -- 23: what may stand in a place is exactly the code of some text,
   pub codes : (c : List ℕ) → Below 256 c → (oneCode c ≡ true) ↔ ((t : List ℕ) × (codeBytes t ≡ accept c))
   -- and the areas that get none are exactly the bytes of good contents
   pub areas : Sound register GoodContents
-  pub tests : CallTests register (λ ch ps. changeStages ch (loansIn ps)) loansIn
+  pub tests : CallTests register (λ ch ls. changeStages ch (loansOf ls)) loansOf
   pub numbers : CallNumbers register
   pub kept : KeptWhereRefused register

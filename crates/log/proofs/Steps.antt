@@ -12,9 +12,8 @@ use Rattle.iscc.specs.Refusals.{Refusal, notRegister, notRecord}
 use Rattle.iscc.specs.Digits.{Below}
 use Rattle.iscc.proofs.Answer.{passed, answered, bind-refused, accept-inj, never}
 use Rattle.iscc.proofs.Digits.{below-drop, below-all}
-use Rattle.loans.specs.Place.{placesBytes}
 use Rattle.loans.specs.Register.{changedArea}
-use Rattle.loans.specs.Contents.{Contents, contentsOf, isRegister, applied, register}
+use Rattle.loans.specs.Contents.{Contents, contentsOf, isRegister, bytesOf, applied, register}
 use Rattle.loans.specs.Good.{GoodContents}
 use Rattle.loans.specs.Fields.{Field, firstSize, firstIsWhole, firstField}
 use Rattle.loans.specs.Records.{isRecord, changeOf, applyChange}
@@ -42,19 +41,19 @@ pub record StepDone (f : Field) (area area′ : List ℕ) : Type 0 where
   pub valid : isRegister area′ ≡ true
 
 module _ (f : Field) (area : List ℕ) (v : isRegister area ≡ true) where
-  area-is : appliedArea f area ≡ (applyRecord f (contentsOf area) >>= λ ps. accept (placesBytes ps))
+  area-is : appliedArea f area ≡ (applyRecord f (contentsOf area) >>= λ ps. accept (bytesOf ps))
   unfolding appliedArea applyChange changedArea
   area-is = rw v (go (isRecord 1 f) (applied (changeOf 1 f) (contentsOf area)))
     where
       go : (b : Bool) (x : Answer Contents)
-          → (b otherwise notRecord >> (x >>= λ ps. accept (placesBytes ps))) ≡ ((b otherwise notRecord >> x) >>= λ ps. accept (placesBytes ps))
+          → (b otherwise notRecord >> (x >>= λ ps. accept (bytesOf ps))) ≡ ((b otherwise notRecord >> x) >>= λ ps. accept (bytesOf ps))
       go true x = refl
       go false x = refl
 
   pub step-stop : (q : Refusal) → appliedArea f area ≡ refuse q → applyRecord f (contentsOf area) ≡ refuse q
-  step-stop q e = go (bind-refused (applyRecord f (contentsOf area)) (λ ps. accept (placesBytes ps)) (sym area-is ∙ e))
+  step-stop q e = go (bind-refused (applyRecord f (contentsOf area)) (λ ps. accept (bytesOf ps)) (sym area-is ∙ e))
     where
-      go : (applyRecord f (contentsOf area) ≡ refuse q) ⊎ ((ps : Contents) × (applyRecord f (contentsOf area) ≡ accept ps) × (accept (placesBytes ps) ≡ refuse q))
+      go : (applyRecord f (contentsOf area) ≡ refuse q) ⊎ ((ps : Contents) × (applyRecord f (contentsOf area) ≡ accept ps) × (accept (bytesOf ps) ≡ refuse q))
           → applyRecord f (contentsOf area) ≡ refuse q
       go (inl w) = w
       go (inr w) = absurd (never (sym (w .2)))
@@ -62,10 +61,10 @@ module _ (f : Field) (area : List ℕ) (v : isRegister area ≡ true) where
   pub step-done : (area′ : List ℕ) → Below 256 (f .body) → Below 256 area → appliedArea f area ≡ accept area′ → StepDone f area area′
   unfolding applyChange
   step-done area′ fb ab e =
-      let w = answered (applyRecord f (contentsOf area)) (λ ps. accept (placesBytes ps)) (sym area-is ∙ e) in
+      let w = answered (applyRecord f (contentsOf area)) (λ ps. accept (bytesOf ps)) (sym area-is ∙ e) in
       let p = passed (isRecord 1 f) notRecord (applied (changeOf 1 f) (contentsOf area)) (w .1) in
       let g : GoodContents (w .0) = applied-good (changeOf 1 f) (contentsOf area) (w .0) (good-change 1 f fb (p .0)) (register-sound .good area ab v) (p .1) in
-      let s : placesBytes (w .0) ≡ area′ = accept-inj (w .2) in
+      let s : bytesOf (w .0) ≡ area′ = accept-inj (w .2) in
       record {
         contents = w .1 ∙ ap accept (sym (register-sound .back (w .0) g) ∙ ap contentsOf s);
         valid = subst (λ (a : List ℕ). isRegister a ≡ true) s (register-sound .valid (w .0) g);

@@ -1,2 +1,3 @@
--- The definitions that the contracts of this crate cite.
+-- What the contracts of this crate cite.
 pub mod Order
+pub mod Representation

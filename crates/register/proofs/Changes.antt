@@ -1,121 +1,120 @@
 -- A question, an issue and a return by their branches: where the search ended, and what was written.
-use Prim.Native.Nat.{ℕ, _+_, _-_, _*_, _%_, _^_, _≤_, _<_}
-use mathlib.Core.Path.{_≡_, refl, sym, _∙_, ap, ap₂}
-use mathlib.Core.Bool.{true, false, true≢false}
-use mathlib.Core.Option.{Option, none, some}
-use mathlib.Core.List.{List, [], _++_, append-nil}
-use native.Mathlib.Nat.{zero-add, mod-eq-of-lt}
+use Prim.Native.Nat.{ℕ, _+_, _*_, _≤_, _<_}
+use mathlib.Core.Path.{_≡_, refl, sym, _∙_, ap, ap₂, subst}
+use mathlib.Core.Bool.{Bool, true, false, cond}
+use mathlib.Core.Option.{none, some}
+use mathlib.Core.List.{List}
 use native.Mathlib.Omega.{arith}
-use lib.ListN.{length, getD, take, drop, replicate, length-drop, drop-of-length-le}
-use lib.Seq.{take-length, drop-drop, length-take-le}
+use lib.ListN.{length, take, drop}
 use lib.Dec.{ltb}
 use borrow.Author.Tests.{lt-ltb, le-ltb}
 use Rattle.iscc.specs.Answer.{Answer}
 use Rattle.iscc.specs.Digits.{Below, value}
 use Rattle.iscc.specs.Refusals.{alreadyOut, allOut, notOut}
-use Rattle.iscc.proofs.Digits.{below-take, below-drop, value-lt}
-use Rattle.loans.specs.Loan.{Loan, loanOf, find, isSome, isOut}
-use Rattle.loans.specs.Map.{issueCode, returnCode, changeWith, holderOf, mapAsked}
-use Rattle.loans.specs.Place.{zeros, placeBytes, placesBytes, placesOf, arePlaces, loansIn}
+use Rattle.loans.specs.Loan.{loanOf, isOut, without}
+use Rattle.loans.specs.Map.{issueCode, returnCode, changeWith, holderOf}
+use Rattle.loans.specs.Place.{placeBytes}
+use Rattle.loans.specs.Order.{areOrdered, loansAt, put}
+use Rattle.loans.specs.Halving.{loanIn, searched, looks}
 use Rattle.loans.specs.Calls.{afterwards}
 use Rattle.loans.specs.Register.{changedArea, askedArea}
-use Rattle.loans.specs.Contents.{Contents, isRegister, put, cleared, register}
-use Rattle.loans.specs.Moves.{placeOfCode, lowestFree, pasted}
-use Rattle.loans.proofs.PlaceAt.{count-places, borrower-there}
-use Rattle.loans.proofs.Map.{not-out}
-use Rattle.loans.proofs.Contents.{register-known}
-use Rattle.loans.proofs.Moves.{borrowerAt, find-at, out-at, free-at}
-use Rattle.loans.proofs.Writes.{put-pasted, cleared-pasted}
+use Rattle.loans.specs.Contents.{Contents, contentsOf, isRegister, bytesOf, register}
+use Rattle.loans.specs.Moves.{putIn, takenOut}
+use Rattle.loans.proofs.OrderedPlaces.{loans-few, borrower-is}
+use Rattle.loans.proofs.Halving.{Around, search-out}
+use Rattle.loans.proofs.Contents.{register-known, contents-rising}
+use Rattle.loans.proofs.OrderPromises.{not-found, is-found, issue-moved, return-moved}
 use Rattle.register.specs.declared.answer.Changed.{Changed}
 use Rattle.register.specs.declared.answer.Changed.the-variants as changes
+use Rattle.register.specs.declared.answer.Holder.{Holder}
 use Rattle.register.specs.declared.answer.Holder.the-variants as holders
-use Rattle.register.specs.Representation.{holderAs, changedAs}
+use Rattle.register.specs.declared.search.Found.{Found}
+use Rattle.register.specs.Representation.{foundAs, holderAs, askedAs, changedAs}
 
 -- what an issue or a return tells of its definition's answer, and what it leaves of the area
 abbrev pub Told : Answer (List ℕ) → List ℕ → Changed → List ℕ → Type 0
 Told x area y d = (y ≡ changedAs x) × (d ≡ afterwards area x)
 
--- ---- one place written
-
-pub put-written : (area place e : List ℕ) (i : ℕ) → length area ≡ 12288 → i < 256 → length place ≡ 48
-    → e ≡ take (length place) place ++ drop (length place) (take (48 * i + 48 - 48 * i) (drop (48 * i) area))
-    → take (48 * i) area ++ (e ++ drop (48 * i + 48 - 48 * i) (drop (48 * i) area)) ≡ pasted (48 * i) place area
-unfolding pasted
-put-written area place e i l h n q =
-    let k : 48 * i + 48 - 48 * i ≡ 48 = omega arith in
-    let m : length (take 48 (drop (48 * i) area)) ≡ 48 = length-take-le 48 (drop (48 * i) area) (omega (arith, length-drop (48 * i) area)) in
-    let z : drop 48 (take 48 (drop (48 * i) area)) ≡ [] = drop-of-length-le (take 48 (drop (48 * i) area)) {i = 48} (omega (arith, m)) in
-    let w : e ≡ place =
-    q ∙ ap (λ (j : ℕ). take (length place) place ++ drop (length place) (take j (drop (48 * i) area))) k
-    ∙ ap (λ (j : ℕ). take (length place) place ++ drop j (take 48 (drop (48 * i) area))) n ∙ ap (λ (x : List ℕ). take (length place) place ++ x) z
-    ∙ append-nil (take (length place) place) ∙ take-length place in
-    rw (w, k, drop-drop 48 (48 * i) area, n)
-
--- ---- where the search for a code ended
-
-pub search-known : (area : List ℕ) → isRegister area ≡ true → (length area ≡ 12288) × (arePlaces 256 area ≡ true) × (0 ≤ 256)
-search-known area v = let k = register-known area v in (k .0, k .1, omega arith)
-
 pub size-known : (area : List ℕ) → isRegister area ≡ true → length area ≡ 12288
 size-known area v = register-known area v .0
 
-module _ (c area : List ℕ) (v : isRegister area ≡ true) (k : ℕ) (e : k ≡ 0 + placeOfCode c (drop 0 (placesOf 256 area))) where
-  abbrev ps : Contents
-  ps = placesOf 256 area
+pub used-few : (area : List ℕ) (u : ℕ) → u ≡ length (loansAt area) → u ≤ 256
+used-few area u n = omega (arith, n, loans-few area)
 
-  place-is : k ≡ placeOfCode c ps
-  place-is = e ∙ zero-add (placeOfCode c ps)
+pub room-left : (area : List ℕ) (u : ℕ) → u ≡ length (loansAt area) → (u ≡ 256 → ⊥) → u < 256
+room-left area u n h = omega (arith, h, used-few area u n)
 
-  -- a code is out exactly if the search ends at a place
-  is-out : isOut c (loansIn ps) ≡ ltb k 256
-  is-out = let n : length ps ≡ 256 = count-places 256 area in out-at c ps ∙ rw (n, ← place-is)
+pub search-known : (area : List ℕ) (u : ℕ) → isRegister area ≡ true → u ≡ length (loansAt area)
+    → (length area ≡ 12288) × (areOrdered area ≡ true) × (u ≡ length (loansAt area))
+search-known area u v n = let p = register-known area v in (p .0, p .1, n)
+
+module _ (c area : List ℕ) (v : isRegister area ≡ true) (f : Found) (e : f ≡ foundAs (searched c (loansAt area))) where
+  abbrev ls : Contents
+  ls = contentsOf area
+
+  is-out : isOut c ls ≡ f .found
+  is-out = sym (search-out c ls (contents-rising area v)) ∙ sym (ap (λ (x : Found). x .found) e)
+
+  place-is : f .place ≡ searched c ls .place
+  place-is = ap (λ (x : Found). x .place) e
+
+  looks-are : f .looks ≡ looks c ls
+  looks-are = ap (λ (x : Found). x .looks) e
+
+  module _ (y : f .found ≡ true) where
+    found-code : (f .place < length ls) × (loanIn ls (f .place) .code ≡ c)
+    found-code = let w = is-found area v c (is-out ∙ y) in (omega (arith, w .0, place-is), ap (λ (k : ℕ). loanIn ls k .code) place-is ∙ w .1)
+
+    pub found-used : (u : ℕ) → u ≡ length (loansAt area) → f .place < u
+    found-used u n = omega (arith, n, found-code .0)
+
+    pub found-few : f .place < 256
+    found-few = omega (arith, found-code .0, loans-few area)
+
+  module _ (y : f .found ≡ false) where
+    around : Around c ls (f .place) (f .place)
+    around = subst (λ (k : ℕ). Around c ls k k) (sym place-is) (not-found area v c (is-out ∙ y))
+
+    pub room-within : (u : ℕ) → u ≡ length (loansAt area) → f .place ≤ u
+    room-within u n = omega (arith, n, around .within)
 
   -- ---- a question
 
-  asked-is : askedArea register c area ≡ holderOf (find c (loansIn ps))
-  unfolding askedArea mapAsked
-  asked-is = rw v
+  asked-by : (x : Bool) → f .found ≡ x → askedArea register c area ≡ holderOf (cond x (some (loanIn ls (f .place) .borrower)) none)
+  unfolding askedArea
+  asked-by x q =
+      rw v (ap₂ (λ (z : Bool) (k : ℕ). holderOf (cond z (some (loanIn ls k .borrower)) none)) (sym (ap (λ (a : Found). a .found) e) ∙ q) (sym place-is))
 
-  pub asked-none : 256 ≤ k → holders.Refused notOut ≡ holderAs (askedArea register c area)
-  asked-none h = sym (ap holderAs asked-is ∙ ap (λ (o : Option ℕ). holderAs (holderOf o)) (not-out c (loansIn ps) (is-out ∙ le-ltb k 256 h)))
+  asked-is : (h : Holder) → h ≡ holderAs (askedArea register c area) → record { holder = h; looks = f .looks } ≡ askedAs (askedArea register c area) (looks c ls)
+  asked-is h q = ap₂ (λ (x : Holder) (k : ℕ). record { holder = x; looks = k }) q looks-are
 
-  -- four bytes hold no more than the number read from them
-  part-value : k < 256 → Below 256 area → value 8 (take (48 * k + 48 - (48 * k + 44)) (drop (48 * k + 44) area)) % 2 ^ 32 ≡ value 8 (take 4 (drop (48 * k + 44) area))
-  part-value h b =
-      let n : 48 * k + 48 - (48 * k + 44) ≡ 4 = omega arith in
-      let s : length (take 4 (drop (48 * k + 44) area)) ≡ 4 =
-      length-take-le 4 (drop (48 * k + 44) area) (omega (arith, register-known area v .0, length-drop (48 * k + 44) area)) in
-      let w : value 8 (take 4 (drop (48 * k + 44) area)) < 2 ^ 32 =
-      rw s at (value-lt 8 (take 4 (drop (48 * k + 44) area)) (below-take 256 4 (drop (48 * k + 44) area) (below-drop 256 (48 * k + 44) area b))) in
-      ap (λ (j : ℕ). value 8 (take j (drop (48 * k + 44) area)) % 2 ^ 32) n ∙ mod-eq-of-lt w
+  pub asked-none : f .found ≡ false → record { holder = holders.Refused notOut; looks = f .looks } ≡ askedAs (askedArea register c area) (looks c ls)
+  asked-none y = asked-is (holders.Refused notOut) (sym (ap holderAs (asked-by false y)))
 
-  pub asked-yes : k < 256 → Below 256 area → (b : ℕ) → b ≡ value 8 (take (48 * k + 48 - (48 * k + 44)) (drop (48 * k + 44) area)) % 2 ^ 32
-      → holders.Borrower b ≡ holderAs (askedArea register c area)
-  asked-yes h y b w =
-      let f : find c (loansIn ps) ≡ borrowerAt (getD ps k none) = find-at c ps ∙ ap (λ (j : ℕ). borrowerAt (getD ps j none)) (sym place-is) in
-      sym (ap holderAs asked-is ∙ ap (λ (o : Option ℕ). holderAs (holderOf o)) (f ∙ there (getD ps k none) refl f) ∙ ap (λ (x : ℕ). holders.Borrower x) (sym (w ∙ part-value h y)))
-    where
-      there : (o : Option Loan) → getD ps k none ≡ o → find c (loansIn ps) ≡ borrowerAt o → borrowerAt o ≡ some (value 8 (take 4 (drop (48 * k + 44) area)))
-      there none u f = absurd (true≢false (sym (is-out ∙ lt-ltb k 256 h) ∙ ap isSome f))
-      there (some l) u f = ap (λ (x : ℕ). some x) (borrower-there area k (register-known area v .0) h l u)
+  pub asked-yes : f .found ≡ true → (b : ℕ) → b ≡ value 8 (take 4 (drop (48 * f .place + 44) area))
+      → record { holder = holders.Borrower b; looks = f .looks } ≡ askedAs (askedArea register c area) (looks c ls)
+  asked-yes y b w =
+      let p = register-known area v in
+      let q : loanIn ls (f .place) .borrower ≡ b = borrower-is area (p .1) (p .0) (f .place) (found-code y .0) ∙ sym w in
+      asked-is (holders.Borrower b) (sym (ap holderAs (asked-by true y) ∙ ap (λ (x : ℕ). holders.Borrower x) q))
 
   -- ---- a return
 
   abbrev Returned : Changed → List ℕ → Type 0
   Returned = Told (changedArea register (returnCode c) area) area
 
-  pub return-none : 256 ≤ k → Returned (changes.Refused notOut) area
+  pub return-none : f .found ≡ false → Returned (changes.Refused notOut) area
   unfolding changedArea changeWith
-  return-none h = let o : isOut c (loansIn ps) ≡ false = is-out ∙ le-ltb k 256 h in rw (v, o) (refl, refl)
+  return-none y = let o : isOut c ls ≡ false = is-out ∙ y in rw (v, o) (refl, refl)
 
-  pub return-done : k < 256 → Below 256 area → (d : List ℕ) → d ≡ pasted (48 * k) (replicate 48 0) area → Returned changes.Done d
-  unfolding changedArea changeWith zeros
-  return-done h b d w =
-      let o : isOut c (loansIn ps) ≡ true = is-out ∙ lt-ltb k 256 h in
-      let n : length ps ≡ 256 = count-places 256 area in
-      let y : d ≡ placesBytes (cleared c ps) =
-      w ∙ ap (λ (j : ℕ). pasted (48 * j) (zeros 48) area) place-is ∙ sym (cleared-pasted area b v c (omega (arith, place-is, n, h))) in
-      rw (v, o) (refl, y)
+  pub return-done : f .found ≡ true → Below 256 area → (u : ℕ) → u ≡ length (loansAt area) → (d : List ℕ) → d ≡ takenOut (48 * f .place) 48 (48 * u) area
+      → Returned changes.Done d
+  unfolding changedArea changeWith
+  return-done y k u n d w =
+      let o : isOut c ls ≡ true = is-out ∙ y in
+      let q : d ≡ bytesOf (without c ls) =
+      w ∙ ap (λ (j : ℕ). takenOut (48 * f .place) 48 (48 * j) area) n ∙ sym (return-moved area v k c (f .place) (found-code y .0) (found-code y .1)) in
+      rw (v, o) (refl, q)
 
   -- ---- an issue
 
@@ -123,26 +122,24 @@ module _ (c area : List ℕ) (v : isRegister area ≡ true) (k : ℕ) (e : k ≡
     abbrev Issued : Changed → List ℕ → Type 0
     Issued = Told (changedArea register (issueCode c b) area) area
 
-    pub issue-out : k < 256 → Issued (changes.Refused alreadyOut) area
+    pub issue-out : f .found ≡ true → Issued (changes.Refused alreadyOut) area
     unfolding changedArea changeWith
-    issue-out h = let o : isOut c (loansIn ps) ≡ true = is-out ∙ lt-ltb k 256 h in rw (v, o) (refl, refl)
+    issue-out y = let o : isOut c ls ≡ true = is-out ∙ y in rw (v, o) (refl, refl)
 
-    module _ (h : 256 ≤ k) (j : ℕ) (f : j ≡ lowestFree ps) where
-      still-in : isOut c (loansIn ps) ≡ false
-      still-in = is-out ∙ le-ltb k 256 h
+    module _ (y : f .found ≡ false) (u : ℕ) (n : u ≡ length (loansAt area)) where
+      still-in : isOut c ls ≡ false
+      still-in = is-out ∙ y
 
-      has-room : ltb (length (loansIn ps)) 256 ≡ ltb j 256
-      has-room = let n : length ps ≡ 256 = count-places 256 area in ap (ltb (length (loansIn ps))) (sym n) ∙ free-at ps ∙ rw (n, ← f)
-
-      pub issue-full : 256 ≤ j → Issued (changes.Refused allOut) area
+      pub issue-full : u ≡ 256 → Issued (changes.Refused allOut) area
       unfolding changedArea changeWith
-      issue-full g = let o : ltb (length (loansIn ps)) 256 ≡ false = has-room ∙ le-ltb j 256 g in rw (v, still-in, o) (refl, refl)
+      issue-full h = let o : ltb (length ls) 256 ≡ false = le-ltb (length ls) 256 (omega (arith, n, h)) in rw (v, still-in, o) (refl, refl)
 
-      pub issue-done : j < 256 → Below 256 area → length c ≤ 42 → (s d : List ℕ) → s ≡ placeBytes (some (loanOf c b)) → d ≡ pasted (48 * j) s area → Issued changes.Done d
+      pub issue-done : (u ≡ 256 → ⊥) → Below 256 area → length c ≤ 42 → (s d : List ℕ) → s ≡ placeBytes (some (loanOf c b)) → d ≡ putIn (48 * f .place) (48 * u) s area
+          → Issued changes.Done d
       unfolding changedArea changeWith
-      issue-done g y m s d u w =
-          let o : ltb (length (loansIn ps)) 256 ≡ true = has-room ∙ lt-ltb j 256 g in
-          let n : length ps ≡ 256 = count-places 256 area in
-          let r : d ≡ placesBytes (put (loanOf c b) ps) =
-          w ∙ ap₂ (λ (i : ℕ) (x : List ℕ). pasted (48 * i) x area) f u ∙ sym (put-pasted area y v (loanOf c b) m (omega (arith, f, n, g))) in
-          rw (v, still-in, o) (refl, r)
+      issue-done h k m s d p w =
+          let l : length ls < 256 = omega (arith, n, h, loans-few area) in
+          let o : ltb (length ls) 256 ≡ true = lt-ltb (length ls) 256 l in
+          let q : d ≡ bytesOf (put (loanOf c b) ls) =
+          w ∙ ap₂ (λ (j : ℕ) (x : List ℕ). putIn (48 * f .place) (48 * j) x area) n p ∙ sym (issue-moved area v k c b (f .place) m (around y) l) in
+          rw (v, still-in, o) (refl, q)

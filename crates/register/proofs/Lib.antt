@@ -1,8 +1,9 @@
 -- The laws that carry the definitions of `loans` to loops and branches.
 pub mod PlaceTests
 pub mod PlaceMade
-pub mod Search
-pub mod TwiceTests
-pub mod KeyLaws
+pub mod OrderTests
+pub mod Counting
+pub mod Searching
+pub mod Moved
 pub mod Changes
 pub mod Texts

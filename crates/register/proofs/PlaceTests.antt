@@ -1,4 +1,4 @@
--- The tests of a place as branches and a loop make them, and a place made of its parts.
+-- The tests of a used place as branches make them, and of zeros as a loop does.
 use Prim.Native.Nat.{ℕ, zero, suc, _+_, _-_, _≤_, _<_}
 use mathlib.Core.Path.{_≡_, refl, sym, _∙_, ap}
 use mathlib.Core.Bool.{Bool, true, false, _&&_, and-false}
@@ -6,13 +6,14 @@ use mathlib.Core.List.{List}
 use native.Mathlib.Numerals.{add-one}
 use native.Mathlib.Omega.{arith}
 use lib.ListN.{length, getD, take, drop, drop-of-length-le}
-use lib.Seq.{drop-cons, drop-drop, take-all}
+use lib.Seq.{drop-cons, drop-drop}
 use lib.Dec.{eqb}
 use borrow.Author.Tests.{lt-ltb, le-ltb, eq-eqb, ne-eqb, le-leb, lt-leb}
 use Rattle.iscc.specs.Digits.{allBelow}
 use Rattle.iscc.proofs.Parts.{drop-take}
 use Rattle.loans.specs.Loan.{oneCode}
 use Rattle.loans.specs.Place.{isPlace}
+use Rattle.register.specs.Used.{isUsed}
 
 -- ---- zeros, by the largest m of the first i bytes
 
@@ -48,17 +49,17 @@ zeros-all {bs} {i} {m} z h = go (eqb m 0) (sym (ap (λ (xs : List ℕ). eqb m 0 
     go true e = e
     go false e = e
 
--- ---- a place
+-- ---- a used place
 
-module _ (bs : List ℕ) (l : length bs ≡ 48) (n : ℕ) (e : n ≡ getD bs 0 0) where
-  pub place-free : n ≡ 0 → (r : Bool) → r ≡ allBelow 1 (take 48 bs) → r ≡ isPlace bs
-  unfolding isPlace
-  place-free z r q = rw (← e, eq-eqb n 0 z) (q ∙ ap (allBelow 1) (take-all 48 bs (omega arith)))
+module _ (bs : List ℕ) (n : ℕ) (e : n ≡ getD bs 0 0) where
+  pub used-none : n ≡ 0 → false ≡ isUsed bs
+  unfolding isUsed
+  used-none z = rw (← e, eq-eqb n 0 z)
 
   module _ (z : n ≡ 0 → ⊥) where
-    pub place-long : 42 < n → false ≡ isPlace bs
-    unfolding isPlace
-    place-long h = rw (← e, ne-eqb n 0 z, lt-leb n 42 h)
+    pub used-long : 42 < n → false ≡ isUsed bs
+    unfolding isUsed isPlace
+    used-long h = rw (← e, ne-eqb n 0 z, lt-leb n 42 h)
 
     module _ (h : n ≤ 42) where
       code-part : take (1 + n - 1) (drop 1 bs) ≡ take n (drop 1 bs)
@@ -69,14 +70,14 @@ module _ (bs : List ℕ) (l : length bs ≡ 48) (n : ℕ) (e : n ≡ getD bs 0 0
           let k : 44 - (1 + n) ≡ 43 - n = omega arith in
           ap (λ (j : ℕ). take j (drop (1 + n) bs)) k ∙ ap (take (43 - n)) (sym (drop-drop n 1 bs)) ∙ sym (drop-take n 43 (drop 1 bs))
 
-      pub place-bad : (r : Bool) → r ≡ oneCode (take (1 + n - 1) (drop 1 bs)) → r ≡ false → false ≡ isPlace bs
-      unfolding isPlace
-      place-bad r p q =
+      pub used-bad : (r : Bool) → r ≡ oneCode (take (1 + n - 1) (drop 1 bs)) → r ≡ false → false ≡ isUsed bs
+      unfolding isUsed isPlace
+      used-bad r p q =
           let o : oneCode (take n (drop 1 bs)) ≡ false = ap oneCode (sym code-part) ∙ sym p ∙ q in
           rw (← e, ne-eqb n 0 z, le-leb n 42 h, o)
 
-      pub place-used : (r s : Bool) → r ≡ oneCode (take (1 + n - 1) (drop 1 bs)) → r ≡ true → s ≡ allBelow 1 (take (44 - (1 + n)) (drop (1 + n) bs)) → s ≡ isPlace bs
-      unfolding isPlace
-      place-used r s p q w =
+      pub used-code : (r s : Bool) → r ≡ oneCode (take (1 + n - 1) (drop 1 bs)) → r ≡ true → s ≡ allBelow 1 (take (44 - (1 + n)) (drop (1 + n) bs)) → s ≡ isUsed bs
+      unfolding isUsed isPlace
+      used-code r s p q w =
           let o : oneCode (take n (drop 1 bs)) ≡ true = ap oneCode (sym code-part) ∙ sym p ∙ q in
           rw (← e, ne-eqb n 0 z, le-leb n 42 h, o) (w ∙ ap (allBelow 1) fill-part)

@@ -17,12 +17,14 @@ use Rattle.loans.proofs.Loan.{code-in}
 use Rattle.loans.specs.Map.{Change, issueCode, returnCode}
 use Rattle.loans.specs.Calls.{issued, returned, borrowerOf, afterwards}
 use Rattle.loans.specs.Register.{changedArea, askedArea}
-use Rattle.loans.specs.Contents.{isRegister, register, issueText, returnText, askText}
+use Rattle.loans.specs.Contents.{isRegister, contentsOf, register, reported, issueText, returnText, askText, looksText}
+use Rattle.loans.specs.Halving.{looks}
+use Rattle.loans.proofs.OrderPromises.{register-in-order}
 use Rattle.register.specs.declared.answer.Changed.{Changed}
 use Rattle.register.specs.declared.answer.Changed.the-variants as changes
-use Rattle.register.specs.declared.answer.Holder.{Holder}
+use Rattle.register.specs.declared.answer.Asked.{Asked}
 use Rattle.register.specs.declared.answer.Holder.the-variants as holders
-use Rattle.register.specs.Representation.{holderAs, holderNumber, holderBorrower, borrowerIn, changedAs, changedNumber}
+use Rattle.register.specs.Representation.{holderAs, askedAs, holderNumber, holderBorrower, borrowerIn, changedAs, changedNumber}
 use Rattle.register.specs.Admitted.{admitted, admittedDetail}
 use Rattle.register.proofs.Changes.{Told}
 
@@ -46,15 +48,23 @@ changed-number (refuse q) = refl
 by-text : (x : Answer (List ℕ)) (area : List ℕ) (y : Changed) (d : List ℕ) → Told x area y d → ToldBy x area y d
 by-text x area y d t = (t .0, (ap changedNumber (t .0) ∙ changed-number x, t .1))
 
-abbrev pub HolderTold : Answer ℕ → Holder → Type 0
-HolderTold x y = (y ≡ holderAs x) × ((holderNumber y ≡ numberOf x) × (holderBorrower y ≡ borrowerIn x))
+-- what a question by text tells
+abbrev pub AskTold : List ℕ → List ℕ → Asked → Type 0
+AskTold t area y =
+    (y ≡ askedAs (askText t area) (looksText t area))
+    × ((holderNumber (y .holder) ≡ numberOf (askText t area))
+    × ((holderBorrower (y .holder) ≡ borrowerIn (askText t area)) × ((y .looks ≡ looksText t area) × (y .looks ≤ 9))))
 
 holder-number : (x : Answer ℕ) → (holderNumber (holderAs x) ≡ numberOf x) × (holderBorrower (holderAs x) ≡ borrowerIn x)
 holder-number (accept b) = (refl, refl)
 holder-number (refuse q) = (refl, refl)
 
-holder-told : (x : Answer ℕ) (y : Holder) → y ≡ holderAs x → HolderTold x y
-holder-told x y e = (e, (ap holderNumber e ∙ holder-number x .0, ap holderBorrower e ∙ holder-number x .1))
+ask-by-text : (t area : List ℕ) (y : Asked) → y ≡ askedAs (askText t area) (looksText t area) → AskTold t area y
+ask-by-text t area y e =
+    let h : y .holder ≡ holderAs (askText t area) = ap (λ (a : Asked). a .holder) e in
+    let l : y .looks ≡ looksText t area = ap (λ (a : Asked). a .looks) e in
+    let n = holder-number (askText t area) in
+    (e, (ap holderNumber h ∙ n .0, (ap holderBorrower h ∙ n .1, (l, subst (λ (k : ℕ). k ≤ 9) (sym l) (register-in-order .looks .nine t area)))))
 
 -- ---- the code of a text, where the area is a register
 
@@ -102,6 +112,9 @@ asked-not : (c area : List ℕ) → isRegister area ≡ false → askedArea regi
 unfolding askedArea
 asked-not c area v = rw v
 
+looks-not : (c area : List ℕ) → isRegister area ≡ false → (isRegister area otherwise notRegister >> accept (looks c (contentsOf area))) ≡ refuse notRegister
+looks-not c area v = rw v
+
 -- ---- the calls
 
 module _ (t area : List ℕ) (k : ℕ) (r : CodeRead) (of : r ≡ codeReadAs k (admitted t area)) where
@@ -121,9 +134,12 @@ module _ (t area : List ℕ) (k : ℕ) (r : CodeRead) (of : r ≡ codeReadAs k (
         by-text (returnText t area) area (changes.Refused q) area
         (told-refusal (returnText t area) area q (refused (λ c. changedArea register (returnCode c) area) (λ c. changed-not (returnCode c) area)))
 
-    pub ask-refused : HolderTold (askText t area) (holders.Refused q)
-    unfolding borrowerOf
-    ask-refused = holder-told (askText t area) (holders.Refused q) (sym (ap holderAs (refused (λ c. askedArea register c area) (λ c. asked-not c area))))
+    pub ask-refused : AskTold t area (record { holder = holders.Refused q; looks = 0 })
+    unfolding borrowerOf looksText
+    ask-refused =
+        let x : askText t area ≡ refuse q = refused (λ c. askedArea register c area) (λ c. asked-not c area) in
+        let l : looksText t area ≡ 0 = ap reported (refused (λ c. isRegister area otherwise notRegister >> accept (looks c (contentsOf area))) (λ c. looks-not c area)) in
+        ask-by-text t area (record { holder = holders.Refused q; looks = 0 }) (sym (rw (x, l) refl))
 
   module _ (found : r .answer ≡ coded.Accepted) where
     abbrev code : List ℕ
@@ -156,6 +172,10 @@ module _ (t area : List ℕ) (k : ℕ) (r : CodeRead) (of : r ≡ codeReadAs k (
         by-text (returnText t area) area y d
         (same-told (returnText t area) (changedArea register (returnCode code) area) area y d (by-code (λ c. changedArea register (returnCode c) area)) w)
 
-    pub ask-told : (y : Holder) → y ≡ holderAs (askedArea register code area) → HolderTold (askText t area) y
-    unfolding borrowerOf
-    ask-told y w = holder-told (askText t area) y (w ∙ sym (ap holderAs (by-code (λ c. askedArea register c area))))
+    pub ask-told : (y : Asked) → y ≡ askedAs (askedArea register code area) (looks code (contentsOf area)) → AskTold t area y
+    unfolding borrowerOf looksText
+    ask-told y w =
+        let x : askText t area ≡ askedArea register code area = by-code (λ c. askedArea register c area) in
+        let l : looksText t area ≡ looks code (contentsOf area) =
+        ap reported (by-code (λ c. isRegister area otherwise notRegister >> accept (looks c (contentsOf area)))) ∙ rw is-register in
+        ask-by-text t area y (w ∙ sym (rw (x, l) refl))

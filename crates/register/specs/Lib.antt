@@ -1,6 +1,5 @@
 -- What the contracts of this crate cite beside the definitions of `loans`.
 pub mod Representation
 pub mod Admitted
-pub mod Twice
-pub mod Keys
-pub mod Search
+pub mod Used
+pub mod Moved

@@ -26,3 +26,9 @@ pub enum Holder {
     Borrower(u32),
     Refused(Refusal),
 }
+
+// What a question answers. The looks are told where the code is out and where it is not, and are 0 with every other refusal.
+pub struct Asked {
+    pub holder: Holder,
+    pub looks: u32,
+}

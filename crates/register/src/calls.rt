@@ -1,10 +1,12 @@
 // The register's calls by a typed text: the numbers of the text come first, then 23, then the register's own.
 ghost use mathlib.Core.Path.{_≡_};
+ghost use Prim.Native.Nat.{_≤_};
 ghost use Rattle.iscc.specs.Answer.{numberOf};
 ghost use Rattle.loans.specs.Calls.{afterwards};
-ghost use Rattle.loans.specs.Contents.{issueText, returnText, askText};
-ghost use Rattle.register.specs.Representation.{holderAs, holderNumber, holderBorrower, borrowerIn, changedAs, changedNumber};
+ghost use Rattle.loans.specs.Contents.{issueText, returnText, askText, looksText};
+ghost use Rattle.register.specs.Representation.{askedAs, holderNumber, holderBorrower, borrowerIn, changedAs, changedNumber};
 use crate::admit::admit;
+use crate::answer::Asked;
 use crate::answer::Changed;
 use crate::answer::Holder;
 use crate::change;
@@ -42,11 +44,12 @@ pub fn take_back(text: &[u8], area: &mut [u8]) -> Changed
     }
 }
 
-// Who has the code that the text holds: 2, 1, 3 to 14, then 23, 22.
-pub fn ask(text: &[u8], area: &[u8]) -> Holder
-    ensures answer { λ r. ⌜ r ≡ holderAs (askText (now (text .entry)) (now (area .entry))) ⌝ }
-    ensures number { λ r. ⌜ holderNumber r ≡ numberOf (askText (now (text .entry)) (now (area .entry))) ⌝ }
-    ensures borrower { λ r. ⌜ holderBorrower r ≡ borrowerIn (askText (now (text .entry)) (now (area .entry))) ⌝ }
+// Who has the code that the text holds, and how many places were looked at: 2, 1, 3 to 14, then 23, 22.
+pub fn ask(text: &[u8], area: &[u8]) -> Asked
+    ensures answer { λ r. ⌜ r ≡ askedAs (askText (now (text .entry)) (now (area .entry))) (looksText (now (text .entry)) (now (area .entry))) ⌝ }
+    ensures number { λ r. ⌜ holderNumber (r .holder) ≡ numberOf (askText (now (text .entry)) (now (area .entry))) ⌝ }
+    ensures borrower { λ r. ⌜ holderBorrower (r .holder) ≡ borrowerIn (askText (now (text .entry)) (now (area .entry))) ⌝ }
+    ensures looks { λ r. ⌜ (r .looks ≡ looksText (now (text .entry)) (now (area .entry))) × (r .looks ≤ 9) ⌝ }
 {
     let found = admit(text, area);
     let bytes = found.code.bytes;
@@ -54,6 +57,9 @@ pub fn ask(text: &[u8], area: &[u8]) -> Holder
     let answer = found.answer;
     match answer {
         CodeAnswer::Accepted => change::ask(&bytes[0..length], area),
-        CodeAnswer::Refused(q, _) => Holder::Refused(q),
+        CodeAnswer::Refused(q, _) => Asked {
+            holder: Holder::Refused(q),
+            looks: 0,
+        },
     }
 }

@@ -1,8 +1,7 @@
 // Whether an area is a register: 23 where it is not.
 ghost use mathlib.Core.Path.{_≡_};
 ghost use Rattle.loans.specs.Contents.{isRegister};
-use crate::places;
-use crate::twice;
+use crate::order;
 use loans::layout::REGISTER_LENGTH;
 
 pub fn is_register(area: &[u8]) -> bool
@@ -11,8 +10,5 @@ pub fn is_register(area: &[u8]) -> bool
     if area.len() != REGISTER_LENGTH {
         return false;
     }
-    if places::are_places(area) {
-        return twice::all_distinct(area);
-    }
-    false
+    order::are_ordered(area)
 }

@@ -5,7 +5,8 @@ ghost use Prim.Native.Nat.{_≤_, _<_};
 ghost use lib.ListN.{length};
 ghost use Rattle.iscc.specs.Digits.{allBelow};
 ghost use Rattle.loans.specs.Loan.{loanOf};
-ghost use Rattle.loans.specs.Place.{placeBytes, isPlace};
+ghost use Rattle.loans.specs.Place.{placeBytes};
+ghost use Rattle.register.specs.Used.{isUsed};
 use crate::code::is_code;
 use iscc::code::LONGEST_CODE;
 use loans::layout::BORROWER_OFFSET;
@@ -19,7 +20,7 @@ pub(crate) fn widen(x: u8) -> usize
 }
 
 // Whether all bytes are zero. Only the largest is tested, so that no byte ends the loop and many go at a time.
-fn all_zero(bytes: &[u8]) -> bool
+pub(crate) fn all_zero(bytes: &[u8]) -> bool
     ensures { λ r. ⌜ r ≡ allBelow 1 (now (bytes .entry)) ⌝ }
 {
     let mut most = 0;
@@ -34,14 +35,14 @@ fn all_zero(bytes: &[u8]) -> bool
     most == 0
 }
 
-// Whether 48 bytes are a place: free and zero, or a code of its length with zeros behind it up to the borrower.
-pub(crate) fn is_place(place: &[u8]) -> bool
+// Whether 48 bytes are a used place: a code of its length, with zeros behind it up to the borrower.
+pub(crate) fn is_used(place: &[u8]) -> bool
     requires { ⌜ length (now place) ≡ 48 ⌝ }
-    ensures { λ r. ⌜ r ≡ isPlace (now (place .entry)) ⌝ }
+    ensures { λ r. ⌜ r ≡ isUsed (now (place .entry)) ⌝ }
 {
     let n = widen(place[0]);
     if n == 0 {
-        return all_zero(&place[0..PLACE_LENGTH]);
+        return false;
     }
     if LONGEST_CODE < n {
         return false;

@@ -1,106 +1,70 @@
-// The 256 places: which bytes are such, where a code stands, the lowest free one.
+// The 256 places: the borrower in one, one put in, one taken out.
 ghost use mathlib.Core.Path.{_≡_};
-ghost use mathlib.Core.Bool.{true};
-ghost use mathlib.Core.Option.{none};
 ghost use Prim.Native.Nat.{_+_, _*_, _≤_, _<_};
-ghost use lib.ListN.{length, getD, drop};
-ghost use Rattle.loans.specs.Place.{placesOf, arePlaces};
-ghost use Rattle.loans.specs.Moves.{pasted, holdsCode, placeOfCode, lowestFree};
-ghost use Rattle.register.specs.Search.{CodeLeft};
-use crate::place;
-use crate::place::widen;
-use loans::layout::CODE_OFFSET;
+ghost use lib.ListN.{length, take, drop};
+ghost use Rattle.iscc.specs.Digits.{value};
+ghost use Rattle.loans.specs.Moves.{pasted, putIn, takenOut};
+ghost use Rattle.register.specs.Moved.{movedOn, movedBack};
+use loans::layout::BORROWER_OFFSET;
 use loans::layout::PLACE_LENGTH;
-use loans::layout::PLACES;
-use octets::compare;
 
-// Whether the bytes are 256 places, whatever codes stand in them.
-pub(crate) fn are_places(places: &[u8]) -> bool
-    requires { ⌜ length (now places) ≡ 12288 ⌝ }
-    ensures { λ r. ⌜ r ≡ arePlaces 256 (now (places .entry)) ⌝ }
-{
-    let mut i: usize = 0;
-    while i < PLACES {
-        let start = PLACE_LENGTH * i;
-        if place::is_place(&places[start..start + PLACE_LENGTH]) {
-            i += 1;
-        } else {
-            return false;
-        }
-    }
-    true
-}
-
-// Whether a place holds the code. Most places that do not have another length or another last byte.
-fn holds(places: &[u8], i: usize, code: &[u8]) -> bool
-    requires { ⌜ (length (now places) ≡ 12288) × (arePlaces 256 (now places) ≡ true) × (i < 256) ⌝ }
-    ensures { λ r. ⌜ r ≡ holdsCode (now (code .entry)) (getD (placesOf 256 (now (places .entry))) i none) ⌝ }
+// The borrower in a place.
+pub(crate) fn borrower(places: &[u8], i: usize) -> u32
+    requires { ⌜ (length (now places) ≡ 12288) × (i < 256) ⌝ }
+    ensures { λ r. ⌜ r ≡ value 8 (take 4 (drop (48 * i + 44) (now (places .entry)))) ⌝ }
 {
     let start = PLACE_LENGTH * i;
-    let n = widen(places[start]);
-    if n != code.len() {
-        return false;
-    }
-    if n == 0 {
-        return false;
-    }
-    if places[start + n] != code[n - 1] {
-        return false;
-    }
-    compare::same(code, &places[start + CODE_OFFSET..start + CODE_OFFSET + n])
+    octets::number::read(&places[start + BORROWER_OFFSET..start + PLACE_LENGTH])
 }
 
-// A place, from one on, before which no place holds the code: the first whose length is the code's. A loop by itself, since most
-// places are passed over here.
-fn candidate_from(places: &[u8], from: usize, code: &[u8]) -> usize
-    requires { ⌜ (length (now places) ≡ 12288) × (arePlaces 256 (now places) ≡ true) × (from ≤ 256) ⌝ }
-    ensures { λ r. ⌜ (from ≤ r) × CodeLeft (now (places .entry)) (now (code .entry)) from r ⌝ }
+// The bytes between two offsets move one place on, the last ones first, so that none is lost but those of the place at the end.
+fn move_on(places: &mut [u8], from: usize, to: usize)
+    requires { ⌜ (from + 48 ≤ to) × (to ≤ length (now places)) ⌝ }
+    ensures { λ _. ⌜ now (places .exit) ≡ movedOn from to (now (places .entry)) ⌝ }
+{
+    let mut i = to;
+    while from + PLACE_LENGTH < i {
+        i -= 1;
+        places[i] = places[i - PLACE_LENGTH];
+    }
+}
+
+// The bytes between two offsets move one place back, the first ones first, over those of the first place.
+fn move_back(places: &mut [u8], from: usize, to: usize)
+    requires { ⌜ (from + 48 ≤ to) × (to ≤ length (now places)) ⌝ }
+    ensures { λ _. ⌜ now (places .exit) ≡ movedBack from to (now (places .entry)) ⌝ }
 {
     let mut i = from;
-    while i < PLACES {
-        if widen(places[PLACE_LENGTH * i]) == code.len() {
-            return i;
-        }
+    while i < to - PLACE_LENGTH {
+        places[i] = places[i + PLACE_LENGTH];
         i += 1;
     }
-    i
-}
-
-// The first place, of those from one on, that holds the code; 256 where none does.
-pub(crate) fn place_from(places: &[u8], from: usize, code: &[u8]) -> usize
-    requires { ⌜ (length (now places) ≡ 12288) × (arePlaces 256 (now places) ≡ true) × (from ≤ 256) ⌝ }
-    ensures { λ r. ⌜ r ≡ from + placeOfCode (now (code .entry)) (drop from (placesOf 256 (now (places .entry)))) ⌝ }
-{
-    let mut i = candidate_from(places, from, code);
-    while i < PLACES {
-        if holds(places, i, code) {
-            return i;
-        }
-        i = candidate_from(places, i + 1, code);
-    }
-    i
-}
-
-// The lowest free place; 256 where none is.
-pub(crate) fn lowest_free(places: &[u8]) -> usize
-    requires { ⌜ length (now places) ≡ 12288 ⌝ }
-    ensures { λ r. ⌜ r ≡ lowestFree (placesOf 256 (now (places .entry))) ⌝ }
-{
-    let mut lowest: usize = 0;
-    while lowest < PLACES {
-        if places[PLACE_LENGTH * lowest] == 0 {
-            return lowest;
-        }
-        lowest += 1;
-    }
-    lowest
 }
 
 // Writes one place.
-pub(crate) fn put(places: &mut [u8], i: usize, place: &[u8])
+fn put(places: &mut [u8], i: usize, place: &[u8])
     requires { ⌜ (length (now places) ≡ 12288) × (i < 256) × (length (now place) ≡ 48) ⌝ }
     ensures { λ _. ⌜ now (places .exit) ≡ pasted (48 * i) (now (place .entry)) (now (places .entry)) ⌝ }
 {
     let start = PLACE_LENGTH * i;
     bytes::copy(place, &mut places[start..start + PLACE_LENGTH]);
+}
+
+// Puts a place in at a number. The used ones from there on move one place on.
+pub(crate) fn insert(places: &mut [u8], i: usize, used: usize, place: &[u8])
+    requires { ⌜ (length (now places) ≡ 12288) × (i ≤ used) × (used < 256) × (length (now place) ≡ 48) ⌝ }
+    ensures { λ _. ⌜ now (places .exit) ≡ putIn (48 * i) (48 * used) (now (place .entry)) (now (places .entry)) ⌝ }
+{
+    move_on(places, PLACE_LENGTH * i, PLACE_LENGTH * (used + 1));
+    put(places, i, place);
+}
+
+// Takes a place out. The used ones behind it move one place back, and the last one is free then.
+pub(crate) fn remove(places: &mut [u8], i: usize, used: usize)
+    requires { ⌜ (length (now places) ≡ 12288) × (i < used) × (used ≤ 256) ⌝ }
+    ensures { λ _. ⌜ now (places .exit) ≡ takenOut (48 * i) 48 (48 * used) (now (places .entry)) ⌝ }
+{
+    move_back(places, PLACE_LENGTH * i, PLACE_LENGTH * used);
+    let zeros = [0u8; 48];
+    put(places, used - 1, &zeros);
 }

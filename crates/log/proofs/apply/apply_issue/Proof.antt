@@ -8,12 +8,12 @@ use Rattle.log.proofs.apply.apply_issue.Tie as tie
 returns : tie.Need-returns
 returns c = issue-short _ _ (c .if1 .taken)
 
-issue-requires : tie.Need-issue-requires
-issue-requires c κs =
+issue-counted-requires : tie.Need-issue-counted-requires
+issue-counted-requires c κs =
     let tested = c .before .before .before .before in
     let start = tested .before .before .before .before in
     let body = below-all 256 (start .before .args .body .now) (λ k _. start .shared-slice-known .given k .fits) in
-    (start .before .pre, code-short (start .before .args .body .now) _ (tested .is-code .ensures) body (c .before .before .before .if2 .taken))
+    (start .before .pre .0, start .before .pre .1, code-short (start .before .args .body .now) _ (tested .is-code .ensures) body (c .before .before .before .if2 .taken))
 
 returns-2 : tie.Need-returns-2
 returns-2 c =
@@ -22,7 +22,7 @@ returns-2 c =
     let tested = read .before .before .before in
     let start = tested .before .before .before .before in
     let body = below-all 256 (start .before .args .body .now) (λ k _. start .shared-slice-known .given k .fits) in
-    issue-told _ _ _ (tested .is-code .ensures) (read .before .before .if2 .taken) body _ (read .read .ensures) _ _ (issued .issue .ensures)
+    issue-told _ _ _ (tested .is-code .ensures) (read .before .before .if2 .taken) body _ (read .read .ensures) _ _ (issued .issue-counted .ensures)
 
 returns-3 : tie.Need-returns-3
 returns-3 c = issue-none _ _ _ (c .before .is-code .ensures) (c .if2 .left)
@@ -40,7 +40,7 @@ apply-issue-spec =
     (λ c. search needs)
     (λ c. search needs)
     (λ c κs. search needs)
-    issue-requires
+    issue-counted-requires
     (λ c. search needs)
     returns-2
     returns-3)

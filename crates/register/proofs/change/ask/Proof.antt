@@ -1,37 +1,20 @@
 -- `change::ask` meets its contract.
-use native.Mathlib.Omega.{arith}
 use borrow.Author.Needs.{needs}
-use Rattle.iscc.proofs.Digits.{below-all}
-use Rattle.register.proofs.Changes.{search-known, size-known, asked-none, asked-yes}
+use Rattle.register.proofs.Changes.{search-known, size-known, found-few, asked-none, asked-yes}
 use Rattle.register.proofs.change.ask.Statement.{statement}
 use Rattle.register.proofs.change.ask.Tie as tie
 
-place-from-requires : tie.Need-place-from-requires
-place-from-requires c κs = search search-known
+search-requires : tie.Need-search-requires
+search-requires c κs = search-known _ _ (c .before .before .before .pre) (c .codes-out .ensures .0)
 
-part-read-end : tie.Need-part-read-end
-part-read-end c = let l = size-known _ (c .before .before .before .before .pre) in omega (arith, l, c .if1 .taken)
+borrower-requires : tie.Need-borrower-requires
+borrower-requires c κs = (search size-known, search found-few)
 
 returns : tie.Need-returns
-returns c =
-    let start = c .before .before .before .before .before .before in
-    let area = below-all 256 (start .args .area .now) (λ k _. c .before .before .before .before .shared-slice-known2 .given k .fits) in
-    search (asked-yes, area)
+returns c = search asked-yes
 
 returns-2 : tie.Need-returns-2
 returns-2 c = search asked-none
 
 pub ask-spec : {M : Type 1} → statement M
-ask-spec =
-    tie.close
-    (tie.spec
-    place-from-requires
-    (λ c. search needs)
-    (λ c. search needs)
-    (λ c. search needs)
-    (λ c. search needs)
-    (λ c. search needs)
-    part-read-end
-    (λ c κs. search needs)
-    returns
-    returns-2)
+ask-spec = tie.close (tie.spec (λ c κs. search needs) search-requires borrower-requires returns returns-2)

@@ -1,6 +1,6 @@
 -- `places::put` meets its contract.
 use borrow.Author.Needs.{needs}
-use Rattle.register.proofs.Changes.{put-written}
+use Rattle.register.proofs.PlaceMade.{put-written}
 use Rattle.register.proofs.places.put.Statement.{statement}
 use Rattle.register.proofs.places.put.Tie as tie
 
