@@ -12,10 +12,11 @@ use base.Stored.{Gv}
 use prog.Wp.{Heap}
 use ghost.Atoms.{Atoms}
 use types.Kit.{Given, Item, Goal, Seq, Step, Soaks, step, ‵, given, some, later, _⊛_, _$_}
-use types.Kit.{move, drop, use1, use2, use3, split, pick, learn, fsplit, fjoin, await}
+use types.Kit.{raw, move, drop, use1, use2, use3, split, join, pick, learn, fsplit, fjoin, await}
 use types.SemTy.{Body}
 use types.Tokens.{lft-new, lft-end}
 use contract.Lifetimes.{Lfts, Shares}
+use contract.Monad.{fact}
 use denote.RattleType.{RattleType}
 use denote.Memory.{mem, cellAt}
 use denote.Laws.{Is, shows}
@@ -23,7 +24,7 @@ use denote.Plain.{uint-makes}
 use denote.Builtin.{u8, usize}
 use denote.Ref.{RefT, NamedLft, now, at-last}
 use denote.Slice.{sliceVal, MutSlice, Room, finally}
-use denote.Steps.{opens, closes, owned, peeks, nothing}
+use denote.Steps.{opens, closes, owned, peeks, heard, nothing}
 use denote.Struct.Steps.{spelt}
 use denote.Struct.Laws as LL
 use denote.Struct.Rest.{all-own, own-open}
@@ -184,6 +185,17 @@ module _ (p : Passed) where
   abbrev pub Slice : ℕ → GName → Fml
   Slice ν δ = MutSlice (named 0) (ν ∷ []) u8 .own (lent δ (p .log)) (slice ∷ [])
 
+  -- the tokens that a call of `append` takes, and what it is called with: the log, the position, and the parameters behind them
+  abbrev pub Tokens : {M : Type 1} {𝓤 : URA M} → ℕ → Item 𝓤
+  Tokens ν = ‵ (flft (ν ∷ []) fullShare) ⊛ ‵ (flft (p .κ″) (p .q″)) ⊛ ‵ ftrue
+
+  abbrev pub Called : {M : Type 1} {𝓤 : URA M} → ℕ → GName → Fml → List (Item 𝓤)
+  Called ν δ rest = Tokens ν ∷ ‵ (Slice ν δ) ∷ ‵ rest ∷ []
+
+  -- what `append` tells of a change, by its answer and the log afterwards
+  abbrev pub Told : Change → Appended → List ℕ → Type 0
+  Told ch r l = (r ≡ appendedAs (p .position) (written before ch)) × (l ≡ writtenAfter (p .log) (p .position) (written before ch) .log)
+
   -- ---- the steps
 
   module _ {M : Type 1} {𝓤 : URA M} {H : Heap 𝓤} {A : Atoms 𝓤} {K : Type 0} {W : Given 𝓤 H A} {Γ : List (Item 𝓤)} {G : Goal 𝓤 H} where
@@ -217,6 +229,18 @@ module _ (p : Passed) where
         (lends-again u8 (p .κ′) (ν ∷ []) (p .q′) (p .γ′) (p .b′) (p .o′) 𝓤 H A W (named 1) (named 0) (p .log)) $
         await t a $ pick t (λ δ. split t $ k ν δ)))
 
+    -- what the call takes, in one
+    abbrev pub passes : K → (rest : Fml) (ν : ℕ) (δ : GName) → p .position < 2 ^ 64
+        → Step K W ((Tokens ν ⊛ ‵ (fsep (Slice ν δ) (fsep (usize .own (p .position) (vint w64 (p .position) ∷ [])) rest))) ∷ Γ) G
+        (Tokens ν ∷ ‵ (Slice ν δ) ∷ ‵ rest ∷ Γ) G
+    passes t rest ν δ fits = step (λ s.
+        move t (2 ∷ []) $ owned t usize (Is usize) (uint-makes 𝓤 H A W w64) (p .position) _ (refl, fits) $ fjoin t $
+        move t (2 ∷ 0 ∷ []) $ fjoin t $ move t (1 ∷ 0 ∷ []) $ join t $ s)
+
+    -- two facts that stand behind something
+    abbrev pub hears : K → (X : Item 𝓤) (P Q : Type 0) → (P → Q → Seq K W (X ∷ Γ) G) → Seq K W ((X ⊛ raw (fact 𝓤 P) ⊛ raw (fact 𝓤 Q)) ∷ Γ) G
+    hears t X P Q k = split t $ move t (1 ∷ []) $ split t $ heard t P (λ e. heard t Q (λ f. k e f))
+
     abbrev pub log-back : K → Soaks G → (ν : ℕ) (δ : GName) (l : List ℕ) (n : ℕ)
         → Room u8 (length (p .log)) → length l ≡ length (p .log) → n < 2 ^ 64
         → Step K W (‵ (Row .own (holds l n) (cell n ∷ [])) ∷ ‵ (flft (p .κ′) (p .q′)) ∷ Γ) G
@@ -228,3 +252,12 @@ module _ (p : Passed) where
         await t a $ split t $ nothing t $ owned t usize (Is usize) (uint-makes 𝓤 H A W w64) n _ (refl, fits) $ fjoin t $ move t (1 ∷ 0 ∷ []) $ fjoin t $
         use1 W (‵ (Row .own (holds l n) (cell n ∷ [])))
         (makes 𝓤 H A W (MutSlice (named 1) (p .κ′) u8 ∷ usize ∷ []) (had n l) (slice ∷ [], (vint w64 n ∷ [], tt))) $ s)
+
+  module _ {M : Type 1} {𝓤 : URA M} {H : Heap 𝓤} {A : Atoms 𝓤} {K : Type 0} {W : Given 𝓤 H A} {Γ : List (Item 𝓤)} {G : Goal 𝓤 H} where
+    -- the log is lent where the walks stand: [the writer's cell; what it owns; Open; Seen; Sure; the other tokens; the other parameters; …]
+    abbrev pub lends-out : K → Soaks G → (rest : Fml)
+        → ((ν : ℕ) (δ : GName)
+        → Seq K W (Tokens ν ∷ ‵ (Slice ν δ) ∷ ‵ rest ∷ ‵ (Lent ν δ) ∷ ‵ (InMemory (p .position)) ∷ ‵ Open ∷ ‵ (Seen before) ∷ ‵ (Sure before) ∷ Γ) G)
+        → Seq K W (‵ (InMemory (p .position)) ∷ ‵ (Row .own before (cell (p .position) ∷ [])) ∷ ‵ Open ∷ ‵ (Seen before) ∷ ‵ (Sure before)
+        ∷ (‵ (flft (p .κ′) (p .q′)) ⊛ ‵ (flft (p .κ″) (p .q″)) ⊛ ‵ ftrue) ∷ ‵ rest ∷ Γ) G
+    lends-out t a rest k = move t (5 ∷ []) $ split t $ move t (3 ∷ 0 ∷ []) $ lends-log t a (λ ν δ. move t (2 ∷ 3 ∷ 0 ∷ 8 ∷ []) $ join t $ k ν δ)

@@ -27,10 +27,10 @@ use denote.RattleType.{owns}
 use denote.Memory.{mem}
 use denote.Laws.{Is, shows}
 use denote.Plain.{uint-vals, uint-tells, uint-makes}
-use denote.Builtin.{u8, u32, usize}
+use denote.Builtin.{u8, u32}
 use denote.Ref.{RefT, MutRef, ptr-vals, mut-tells}
 use denote.Slice.{slice-vals, ShrSlice, shr-slice-tells, shr-slice-lawful}
-use denote.Steps.{only, owned, peeks, heard, nothing}
+use denote.Steps.{only, owned, peeks, nothing}
 use denote.Struct.Laws as LL
 use denote.Triple.Entry.{onEntry}
 use denote.Triple.Spec.{Meets, tripleOf}
@@ -52,7 +52,7 @@ use Rattle.log.proofs.writer.LogWriter as T
 use Rattle.log.proofs.append.Appended as P
 use Rattle.log.proofs.append.Appended.Laws as P′
 use Rattle.log.proofs.Walks.{writer-told, number-fits, position-fits, WriterS, Passed, passedOf, lfts, shares, Row, lent, holds, before, slice}
-use Rattle.log.proofs.Walks.{codeVal, Left, before-fits, before-room, Slice, opens-writer, closes-writer, lends-log, log-back}
+use Rattle.log.proofs.Walks.{codeVal, Left, Called, Told, before-fits, before-room, opens-writer, closes-writer, lends-out, passes, hears, log-back}
 use Rattle.log.proofs.append.issue as callee
 use Rattle.log.proofs.append.issue.Symbol as callee-def
 use Rattle.log.proofs.append.issue.Symbol.{name as #log·append·issue}
@@ -71,6 +71,10 @@ Callee 𝓤 H A mem run = tripleOf 𝓤 H A callee.signature (callee.spec 𝓤 H
 
 module _ {M : Type 1} (𝓤 : URA M) (H : Heap 𝓤) (A : Atoms 𝓤) (W : Given 𝓤 H A) (at-mem : Memory → SProp 𝓤) (run : Routine → Fun 𝓤)
     (p : Passed) (k : ℕ) (bounds : AllOutlive 3 (caller.signature .outlives) (lfts p)) where
+  -- that contract, at what the walk binds
+  abbrev promised : Contract 𝓤
+  promised = Callee 𝓤 H A at-mem run
+
   abbrev a : RefT LogWriter × (RefT (List ℕ) × (ℕ × Unit {0}))
   a = (record { ptr = (p .b, p .o); name = p .γ; now = before p }, (p .code, (k, tt)))
 
@@ -91,7 +95,7 @@ module _ {M : Type 1} (𝓤 : URA M) (H : Heap 𝓤) (A : Atoms 𝓤) (W : Given
   rest = fsep (ShrSlice (named 2) (p .κ″) u8 .own (p .code) (codeVal p ∷ [])) (fsep (u32 .own k (vint w32 k ∷ [])) ftrue)
 
   -- what the callee is called with: the log is lent for the lifetime ν under the name δ
-  abbrev to-callee : ℕ → GName → Callee 𝓤 H A at-mem run .Ghost
+  abbrev to-callee : ℕ → GName → promised .Ghost
   to-callee ν δ = (
     (
       (ν ∷ [], (p .κ″, tt)),
@@ -104,26 +108,22 @@ module _ {M : Type 1} (𝓤 : URA M) (H : Heap 𝓤) (A : Atoms 𝓤) (W : Given
   )
 
   goes : p .position < 2 ^ 64 → (ν : ℕ) (δ : GName)
-      → ent 𝓤 (⋆ 𝓤 H A ((‵ (flft (ν ∷ []) fullShare) ⊛ ‵ (flft (p .κ″) (p .q″)) ⊛ ‵ ftrue) ∷ ‵ (Slice p ν δ) ∷ ‵ rest ∷ []))
-      (Callee 𝓤 H A at-mem run .pre (to-callee ν δ))
-  goes fits ν δ =
-      qed W ((‵ (flft (ν ∷ []) fullShare) ⊛ ‵ (flft (p .κ″) (p .q″)) ⊛ ‵ ftrue) ∷ ‵ (Slice p ν δ) ∷ ‵ rest ∷ []) ∵
-      move ! (2 ∷ []) $ owned ! usize (Is usize) (uint-makes 𝓤 H A W w64) (p .position) _ (refl, fits) $ fjoin ! $
-      move ! (2 ∷ 0 ∷ []) $ fjoin ! $ move ! (1 ∷ 0 ∷ []) $ join ! $ frame ! $ done !
+      → ent 𝓤 (⋆ 𝓤 H A (Called p ν δ rest)) (promised .pre (to-callee ν δ))
+  goes fits ν δ = qed W (Called p ν δ rest) ∵ passes p ! rest ν δ fits $ frame ! $ done !
 
-  exits : (r : Appended) (l : List ℕ) → r .number < 2 ^ 32 → r ≡ appendedAs (p .position) told → l ≡ writtenAfter (p .log) (p .position) told .log
+  exits : (r : Appended) (l : List ℕ) → r .number < 2 ^ 32 → Told p (issueCode (p .code .now) k) r l
       → ent 𝓤 (⋆ 𝓤 H A (Left p (holds p l (r .position)))) (Post (vint w32 (r .number)))
-  exits r l fits e f =
+  exits r l fits tells =
       qed W (Left p (holds p l (r .position))) ∵
       suffices ! _ (ends-at 𝓤 H A caller.ended stayed (caller.clauses 𝓤 H A at-mem run) W
       ((lfts p, shares p, bounds, a, vals), tt) (vint w32 (r .number)) (r .number)
-      (holds p l (r .position), (tt, (tt, tt))) (tt, (tt, (tt, tt)))) $ says ! (writer-told (before p) (issueCode (p .code .now) k) r l e f) $
+      (holds p l (r .position), (tt, (tt, tt))) (tt, (tt, (tt, tt)))) $ says ! (writer-told (before p) (issueCode (p .code .now) k) r l (tells .0) (tells .1)) $
       move ! (3 ∷ 4 ∷ []) $ join ! $ move ! (3 ∷ 0 ∷ []) $ join ! $ frame ! $
       feqI ! (List Val) (vptr (p .b) (p .o) ∷ []) (vptr (p .b) (p .o) ∷ []) refl $ fjoin3 ! $
       nothing ! $ nothing ! $ fjoin ! $ nothing ! $ fjoin ! $ move ! (1 ∷ 0 ∷ []) $ fjoin ! $
       owned ! u32 (Is u32) (uint-makes 𝓤 H A W w32) (r .number) _ (refl, fits) $ move ! (1 ∷ 0 ∷ []) $ done !
 
-  module _ (C : Calls 𝓤 H) (Λ : Loops 𝓤 H) (fm : FmC 𝓤 H (W .laws) C) (known : Triple 𝓤 (C #log·append·issue) (Callee 𝓤 H A at-mem run)) where
+  module _ (C : Calls 𝓤 H) (Λ : Loops 𝓤 H) (fm : FmC 𝓤 H (W .laws) C) (known : Triple 𝓤 (C #log·append·issue) promised) where
     walk : Is (ShrSlice (named 2) (p .κ″) u8) (p .code) (codeVal p ∷ []) → k < 2 ^ 32
         → ent 𝓤 (onEntry 𝓤 H A caller.signature (lfts p) (shares p) a vals)
         (WpFn 𝓤 H C Λ code.function (vptr (p .b) (p .o) ∷ codeVal p ∷ vint w32 k ∷ []) Post)
@@ -144,11 +144,9 @@ module _ {M : Type 1} (𝓤 : URA M) (H : Heap 𝓤) (A : Atoms 𝓤) (W : Given
         (from ! (stop !)) (init ! 9 refl (tt, tt)) $
         assigns ! (agg ! (and-then ! (load ! (from ! (stop !)) (look ! 9 refl)) (and-then ! (load ! (from ! (stop !)) (look ! 11 refl)) (no-more !))))
         (from ! (stop !)) (init ! 7 refl (tt, (tt, (record { fits = before-room p g .0 }, tt)))) $
-        -- the log is lent, and the call made: [Slice; Lent; ν's token; the code's token, …; the cell; Open; Seen; Sure; rest; _8; …]
-        move ! (5 ∷ []) $ split ! $ move ! (3 ∷ 0 ∷ []) $ lends-log p ! tt (λ ν δ. move ! (2 ∷ 3 ∷ 0 ∷ 8 ∷ []) $
-        join ! $ use3 W (raw (Callee 𝓤 H A at-mem run .pre (to-callee ν δ))) (goes (before-fits p g) ν δ) $
-        calls-at ! fm (Callee 𝓤 H A at-mem run) known (to-callee ν δ)
-        (and-then ! (load ! (from ! (stop !)) (look ! 6 refl)) (and-then ! (load ! (from ! (stop !)) (look ! 14 refl))
+        -- the log is lent, and the call made: [what it takes; Lent; the cell; Open; Seen; Sure; _8; …]
+        lends-out p ! tt rest (λ ν δ. use3 W (raw (promised .pre (to-callee ν δ))) (goes (before-fits p g) ν δ) $
+        calls-at ! fm promised known (to-callee ν δ) (and-then ! (load ! (from ! (stop !)) (look ! 6 refl)) (and-then ! (load ! (from ! (stop !)) (look ! 14 refl))
         (and-then ! (load ! (from ! (stop !)) (look ! 18 refl)) (and-then ! (load ! (from ! (stop !)) (look ! 16 refl)) (no-more !))))) (λ w.
         -- what it ensures, of some answer and some last list
         use1 W (later (some (λ (r : Appended). ((‵ (flft (ν ∷ []) fullShare) ⊛ ‵ (flft (p .κ″) (p .q″)) ⊛ ‵ ftrue) ⊛ ‵ (P.the-row .own r (w ∷ [])))
@@ -157,8 +155,7 @@ module _ {M : Type 1} (𝓤 : URA M) (H : Heap 𝓤) (A : Atoms 𝓤) (W : Given
         split ! $ move ! (1 ∷ []) $ use1 W (some (λ (ls : List ℕ × (Unit {0} × (Unit {0} × (Unit {0} × Unit {0})))).
         ‵ (lasts callee.ended (ν ∷ [], (p .κ″, tt)) (lent p δ (p .log), (p .position, (p .code, (k, tt)))) ls)
         ⊛ raw (fact 𝓤 (r ≡ appendedAs (p .position) told)) ⊛ raw (fact 𝓤 (ls .0 ≡ writtenAfter (p .log) (p .position) told .log)))) (id⊢ 𝓤 _) $ pick ! (λ ls.
-        split ! $ move ! (1 ∷ []) $ split ! $ heard ! (r ≡ appendedAs (p .position) told) (λ e.
-        heard ! (ls .0 ≡ writtenAfter (p .log) (p .position) told .log) (λ f.
+        hears p ! _ (r ≡ appendedAs (p .position) told) (ls .0 ≡ writtenAfter (p .log) (p .position) told .log) (λ e f.
         fsplit ! $ fsplit ! $ move ! (1 ∷ []) $ feqL ! (λ same. move ! (2 ∷ []) $ split ! $ move ! (1 ∷ []) $
         peeks ! P.the-row (Is P.the-row) (shows 𝓤 H A P.the-row) r (w ∷ []) (λ is.
         land ! (from ! (stop !)) (init ! 15 refl (LL.lawful P.the-type P′.the-laws 𝓤 H A W .typed r _ is .0)) $
@@ -175,7 +172,7 @@ module _ {M : Type 1} (𝓤 : URA M) (H : Heap 𝓤) (A : Atoms 𝓤) (W : Given
         move ! (23 ∷ 24 ∷ []) $ free1 ! $ move ! (21 ∷ 22 ∷ []) $ free1 ! $ move ! (19 ∷ 20 ∷ []) $ free1 ! $ move ! (17 ∷ 18 ∷ []) $ free1 ! $
         move ! (15 ∷ 16 ∷ []) $ free1 ! $
         move ! (13 ∷ 14 ∷ []) $ free1 ! $ move ! (11 ∷ 12 ∷ []) $ free1 ! $ move ! (9 ∷ 10 ∷ []) $ free1 ! $ move ! (7 ∷ 8 ∷ []) $ free1 ! $ free0 ! $
-        keep ! (0 ∷ 1 ∷ 2 ∷ 3 ∷ 4 ∷ []) $ by ! (exits r (ls .0) (number-fits r w is) e f)))))))))))))))))))
+        keep ! (0 ∷ 1 ∷ 2 ∷ 3 ∷ 4 ∷ []) $ by ! (exits r (ls .0) (number-fits r w is) (e, f)))))))))))))))))))
 
 module _ {M : Type 1} (𝓤 : URA M) (H : Heap 𝓤) (A : Atoms 𝓤) (W : Given 𝓤 H A) (mem : Memory → SProp 𝓤) (run : Routine → Fun 𝓤) where
   walks : (C : Calls 𝓤 H) (Λ : Loops 𝓤 H) → FmC 𝓤 H (W .laws) C → Triple 𝓤 (C #log·append·issue) (Callee 𝓤 H A mem run)
