@@ -6,6 +6,9 @@ pub const PLACES: usize = 256;
 // A place, in bytes.
 pub const PLACE_LENGTH: usize = 48;
 
+// All places, in bytes.
+pub const PLACES_LENGTH: usize = 12288;
+
 // The whole register, in bytes.
 pub const REGISTER_LENGTH: usize = 12288;
 

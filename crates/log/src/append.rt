@@ -13,7 +13,7 @@ use loans::layout::BORROWER_LENGTH;
 use loans::layout::HEAD_LENGTH;
 use loans::layout::ISSUE_TAG;
 use loans::layout::RETURN_TAG;
-use register::code::is_code;
+use places::code::is_code;
 
 // Number 0 and the position behind the record; or a refusal and the position as it was.
 pub struct Appended {

@@ -12,9 +12,9 @@ use loans::layout::BORROWER_LENGTH;
 use loans::layout::HEAD_LENGTH;
 use loans::layout::ISSUE_TAG;
 use loans::layout::RETURN_TAG;
+use places::code::is_code;
 use register::answer::Changed;
 use register::change;
-use register::code::is_code;
 
 // The body of an issue: the borrower, then the code.
 fn apply_issue(body: &[u8], used: usize, area: &mut [u8]) -> Changed

@@ -28,8 +28,9 @@ use Rattle.register.specs.declared.answer.Changed.{Changed}
 use Rattle.register.specs.declared.answer.Changed.the-variants as changes
 use Rattle.register.specs.declared.answer.Holder.{Holder}
 use Rattle.register.specs.declared.answer.Holder.the-variants as holders
-use Rattle.register.specs.declared.search.Found.{Found}
-use Rattle.register.specs.Representation.{foundAs, holderAs, askedAs, changedAs}
+use Rattle.places.specs.declared.search.Found.{Found}
+use Rattle.places.specs.Representation.{foundAs}
+use Rattle.register.specs.Representation.{holderAs, askedAs, changedAs}
 
 -- what an issue or a return tells of its definition's answer, and what it leaves of the area
 abbrev pub Told : Answer (List ℕ) → List ℕ → Changed → List ℕ → Type 0

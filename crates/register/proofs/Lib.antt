@@ -1,9 +1,5 @@
 -- The laws that carry the definitions of `loans` to loops and branches.
-pub mod PlaceTests
-pub mod PlaceMade
-pub mod OrderTests
+pub mod Areas
 pub mod Counting
-pub mod Searching
-pub mod Moved
 pub mod Changes
 pub mod Texts

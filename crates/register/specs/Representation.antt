@@ -1,19 +1,12 @@
 -- The answers in the code, and the lent area after a change.
 use Prim.Native.Nat.{ℕ}
 use mathlib.Core.List.{List}
-use lib.ListN.{length}
 use Rattle.iscc.specs.Answer.{Answer, accept, refuse}
-use Rattle.loans.specs.Halving.{Search}
-use Rattle.register.specs.declared.search.Found.{Found}
 use Rattle.register.specs.declared.answer.Asked.{Asked}
 use Rattle.register.specs.declared.answer.Changed.{Changed}
 use Rattle.register.specs.declared.answer.Changed.the-variants as changes
 use Rattle.register.specs.declared.answer.Holder.{Holder}
 use Rattle.register.specs.declared.answer.Holder.the-variants as holders
-
--- where a search ended, and its count of looks
-abbrev pub foundAs : Search → Found
-foundAs s = record { found = s .found; place = s .place; looks = length (s .looked) }
 
 -- what a question hands over; "A refusal has borrower 0."
 abbrev pub borrowerIn : Answer ℕ → ℕ

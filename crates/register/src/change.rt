@@ -13,11 +13,11 @@ use crate::answer::Asked;
 use crate::answer::Changed;
 use crate::answer::Holder;
 use crate::count;
-use crate::place;
-use crate::places;
-use crate::search::search;
 use iscc::refusal::Refusal;
 use loans::layout::PLACES;
+use places::moves;
+use places::place;
+use places::search::search;
 
 // The code goes to the borrower, at its place in the order: 20, then 21. `used` is how many codes are out.
 pub fn issue_counted(code: &[u8], borrower: u32, used: usize, area: &mut [u8]) -> Changed
@@ -33,7 +33,7 @@ pub fn issue_counted(code: &[u8], borrower: u32, used: usize, area: &mut [u8]) -
         return Changed::Refused(Refusal::ALL_OUT);
     }
     let loan = place::place_of(code, borrower);
-    places::insert(area, at.place, used, &loan);
+    moves::insert(area, at.place, used, &loan);
     Changed::Done
 }
 
@@ -45,7 +45,7 @@ pub fn take_back_counted(code: &[u8], used: usize, area: &mut [u8]) -> Changed
 {
     let at = search(area, used, code);
     if at.found {
-        places::remove(area, at.place, used);
+        moves::remove(area, at.place, used);
         return Changed::Done;
     }
     Changed::Refused(Refusal::NOT_OUT)
@@ -78,7 +78,7 @@ pub(crate) fn ask(code: &[u8], area: &[u8]) -> Asked
     let used = count::codes_out(area);
     let at = search(area, used, code);
     if at.found {
-        let borrower = places::borrower(area, at.place);
+        let borrower = place::borrower(area, at.place);
         return Asked {
             holder: Holder::Borrower(borrower),
             looks: at.looks,

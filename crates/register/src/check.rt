@@ -1,8 +1,8 @@
 // Whether an area is a register: 23 where it is not.
 ghost use mathlib.Core.Path.{_≡_};
 ghost use Rattle.loans.specs.Contents.{isRegister};
-use crate::order;
 use loans::layout::REGISTER_LENGTH;
+use places::order;
 
 pub fn is_register(area: &[u8]) -> bool
     ensures { λ r. ⌜ r ≡ isRegister (now (area .entry)) ⌝ }

@@ -1,7 +1,7 @@
 -- `check::is_register` meets its contract.
 use native.Mathlib.Omega.{arith}
 use borrow.Author.Needs.{needs}
-use Rattle.register.proofs.OrderTests.{register-length, register-is}
+use Rattle.register.proofs.Areas.{register-length, register-is}
 use Rattle.register.proofs.check.is_register.Statement.{statement}
 use Rattle.register.proofs.check.is_register.Tie as tie
 

@@ -1,0 +1,6 @@
+-- The laws that carry the definitions of `loans` to loops and branches.
+pub mod PlaceTests
+pub mod PlaceMade
+pub mod OrderTests
+pub mod Searching
+pub mod Moved
