@@ -1,12 +1,12 @@
 //! Both sides must answer alike, or their times say nothing: on every measured input, with the number that its row states; and
 //! on what is near the first input of a row: its beginnings, and each change of one byte. Calls on a register must agree on
-//! damaged ones too and on codes near those that are out, and change no more than is put back behind a measured call. Logs are
-//! appended in areas of other lengths and at other positions too, and replayed where they are torn or a record stops them. The
-//! leaf and the loops in C count alike on bodies of every length.
+//! damaged ones too, on wrong counts and on codes near those that are out, and change no more than is put back behind a measured
+//! call. Logs are appended in areas of other lengths and at other positions too, and replayed where they are torn or a record
+//! stops them. The leaf and the loops in C count alike on bodies of every length.
 
 use crate::leaf;
 use crate::logs::{self, Record};
-use crate::registers::{Register, PLACE, PLACES};
+use crate::registers::{count, used_places, Register, COUNTS, PLACE, PLACES};
 use crate::rows::{Call, Loan, Row};
 use crate::{inputs, library, plain_append, sides, OnRegister, Writer, REPLAYS};
 use std::fmt::Debug;
@@ -95,6 +95,7 @@ fn number(row: &Row, case: usize, input: &[u8]) -> u32 {
         Call::Join => written([library::join, plain::join], row, input),
         Call::Split | Call::Differing => row.number,
         Call::Loan(call) => called(sides(call), input, &row.registers[case].area).0 .0,
+        Call::Counts => called(crate::COUNTS, input, &row.registers[case].area).0 .0,
         Call::Append => written_again(input),
         Call::Replay => called(REPLAYS, input, &row.registers[case].area).0 .0,
         Call::Distance => {
@@ -132,16 +133,17 @@ fn damaged(area: &[u8], mut check: impl FnMut(&[u8])) {
     }
 }
 
-/// No registers, though each of their places is one: each used place of a register exchanged with the one behind it, or written
-/// over it; the first over each of the others; and each place freed that is before a used one.
+/// No registers, though each of their places is one and counted: each used place of a register exchanged with the one behind it,
+/// or written over it; the first over each of the others; and each place freed that is before a used one.
 fn out_of_order(area: &[u8], mut check: impl FnMut(&[u8])) {
-    let places: Vec<&[u8]> = area.chunks_exact(PLACE).collect();
+    let places: Vec<&[u8]> = area[COUNTS..].chunks_exact(PLACE).collect();
     let is_used = |&place: &usize| places[place][0] != 0;
     let mut with = |changes: &[(usize, &[u8])]| {
         let mut changed = area.to_vec();
         for &(place, bytes) in changes {
-            changed[PLACE * place..PLACE * (place + 1)].copy_from_slice(bytes);
+            changed[COUNTS + PLACE * place..COUNTS + PLACE * (place + 1)].copy_from_slice(bytes);
         }
+        count(&mut changed);
         check(&changed);
     };
     for place in (0..PLACES - 1).filter(is_used) {
@@ -156,12 +158,33 @@ fn out_of_order(area: &[u8], mut check: impl FnMut(&[u8])) {
     }
 }
 
-/// Areas that begin like this one, of other lengths.
+/// No registers, though their places are one's: each count one higher and one lower, alone, and together with each other one.
+fn miscounted(area: &[u8], mut check: impl FnMut(&[u8])) {
+    let changes = [1, u16::MAX]; // added without a carry: one more, one less
+    let mut changed = area.to_vec();
+    let change = |area: &mut [u8], index: usize, by: u16| {
+        let bytes = area[2 * index..].first_chunk_mut().unwrap();
+        *bytes = u16::from_be_bytes(*bytes).wrapping_add(by).to_be_bytes();
+    };
+    for (index, by) in (0..COUNTS / 2).flat_map(|index| changes.map(|by| (index, by))) {
+        change(&mut changed, index, by);
+        check(&changed);
+        for (other, by) in (0..index).flat_map(|other| changes.map(|by| (other, by))) {
+            change(&mut changed, other, by);
+            check(&changed);
+            change(&mut changed, other, by.wrapping_neg());
+        }
+        change(&mut changed, index, by.wrapping_neg());
+    }
+}
+
+/// Areas that begin like this one, of other lengths, and its places without the counts.
 fn other_lengths(area: &[u8], mut check: impl FnMut(&[u8])) {
     let longer = [area, &[0; PLACE]].concat();
-    for length in [0, PLACE, area.len() - PLACE, area.len() - 1, area.len() + 1, longer.len()] {
+    for length in [0, COUNTS, PLACE, area.len() - PLACE, area.len() - COUNTS, area.len() - 1, area.len() + 1, longer.len()] {
         check(&longer[..length]);
     }
+    check(&area[COUNTS..]);
 }
 
 /// A code, and those right before and behind it of the same header; the last is followed by the first.
@@ -173,7 +196,7 @@ fn around(code: &[u8]) -> [Vec<u8>; 3] {
 
 /// Calls for each code that is out and for those around it.
 fn check_codes(call: Loan, area: &[u8]) {
-    for place in area.chunks_exact(PLACE).filter(|place| place[0] != 0) {
+    for place in used_places(area) {
         for code in around(&place[1..=place[0] as usize]) {
             called(sides(call), &inputs::spelt(&code), area);
         }
@@ -190,10 +213,33 @@ fn check_register(call: Loan, row: &Row) {
         called(sides(call), text, area);
     });
     out_of_order(area, |area| assert_eq!(called(sides(call), text, area).0, (23, 0, 0), "{row}: out of order"));
+    miscounted(area, |area| assert_eq!(called(sides(call), text, area).0, (23, 0, 0), "{row}: miscounted"));
     other_lengths(area, |area| {
         let number = |text: &[u8]| called(sides(call), text, area).0 .0;
         assert_eq!([number(text), number(b"")], [23, 1], "{row}: on {} bytes", area.len());
     });
+}
+
+/// The counts of the registers of a row, and of the first where it is damaged, miscounted or has another length. They are those
+/// that stand in the register, and nothing is changed.
+fn check_counts(row: &Row) {
+    let told = |area: &[u8]| {
+        let (answer, after) = called(crate::COUNTS, b"", area);
+        assert!(after == area, "{row}: another area is left");
+        answer
+    };
+    for Register { area, .. } in &row.registers {
+        let stand = area[..COUNTS].as_chunks().0.iter().map(|count| u16::from_be_bytes(*count) as u32);
+        assert_eq!(told(area), (0, stand.collect::<Vec<_>>().try_into().unwrap()), "{row}");
+    }
+    let area = &row.registers[0].area;
+    let refused = |area: &[u8]| assert_eq!(told(area), (23, [0; 8]), "{row}");
+    damaged(area, |area| {
+        told(area);
+    });
+    out_of_order(area, refused);
+    miscounted(area, refused);
+    other_lengths(area, refused);
 }
 
 /// The first records of a row once more: in every area and at every position about as long as they are, and with other bytes
@@ -253,6 +299,7 @@ fn check_replay(row: &Row) {
         called(REPLAYS, start, area);
     });
     out_of_order(area, |area| assert_eq!(called(REPLAYS, start, area).0, (23, 0, 0), "{row}: out of order"));
+    miscounted(area, |area| assert_eq!(called(REPLAYS, start, area).0, (23, 0, 0), "{row}: miscounted"));
     other_lengths(area, |area| assert_eq!(called(REPLAYS, log, area).0, (23, 0, 0), "{row}: on {} bytes", area.len()));
 }
 
@@ -268,6 +315,7 @@ pub fn check(row: &Row) {
     }
     match row.call {
         Call::Loan(call) => check_register(call, row),
+        Call::Counts => check_counts(row),
         Call::Append => check_append(row),
         Call::Replay => check_replay(row),
         _ => {}

@@ -15,8 +15,8 @@ mod turns;
 
 use entry::{LogIssue, LogReturn};
 use logs::Record;
-use registers::{Register, BORROWER, PLACE};
-use revisions::{Entries, Entry};
+use registers::{Register, BORROWER, COUNTS, PLACE};
+use revisions::{Entries, Entry, Side};
 use rows::Row;
 use std::process::exit;
 use std::time::Duration;
@@ -32,7 +32,7 @@ const RECORDS: [usize; 2] = [1, 100_000];
 const APPENDED: usize = 1_000;
 
 /// The entries of a row, before and after.
-type Sides = [Entry; 2];
+type Sides = [Side; 2];
 
 #[derive(Debug, PartialEq)]
 enum Answer {
@@ -42,6 +42,7 @@ enum Answer {
     Counted(u16),
     /// With the looks, where both tell them.
     Held((u32, u32), Option<u32>),
+    Out((u32, [u32; 8])),
     Replayed((u32, u32, usize)),
 }
 
@@ -49,7 +50,8 @@ impl Answer {
     fn number(&self) -> u32 {
         match *self {
             Answer::Written((number, _)) | Answer::Tested(number) => number,
-            Answer::Measured((number, ..)) | Answer::Held((number, _), _) | Answer::Replayed((number, ..)) => number,
+            Answer::Measured((number, ..)) | Answer::Held((number, _), _) => number,
+            Answer::Out((number, _)) | Answer::Replayed((number, ..)) => number,
             Answer::Counted(_) => 0,
         }
     }
@@ -58,7 +60,7 @@ impl Answer {
 fn name_left_out(rows: &[Row]) {
     for row in rows {
         for (revision, entries) in [("before", Entries::before()), ("after", Entries::after())] {
-            if entries.of(row.call).is_none() {
+            if entries.side(row.call).is_none() {
                 eprintln!("left out: {row}: no such entry {revision}");
             }
         }
@@ -69,15 +71,27 @@ fn writer(issue: LogIssue, take_back: LogReturn) -> impl Fn(&mut [u8], usize, &R
     move |log, position, record| entry::append(issue, take_back, log, position, record)
 }
 
-fn sorted(area: &[u8]) -> Vec<u8> {
-    let mut places: Vec<&[u8]> = area.chunks(PLACE).collect();
+fn sorted(places: &[u8]) -> Vec<u8> {
+    let mut places: Vec<&[u8]> = places.chunks(PLACE).collect();
     places.sort();
     places.concat()
 }
 
-/// What the entry answers, and the area that it leaves. Where one revision has another order of places than the other, those of a
-/// register that was changed are sorted: both promise the same loans then, and not where each stands.
-fn answer(entry: Entry, row: &Row, case: usize) -> (Answer, Vec<u8>) {
+/// What both revisions promise of a register that a call left. Where one has another order of places than the other, those of a
+/// register that was changed are sorted: it is the same loans then, and not where each stands. Where one alone keeps counts, it is
+/// the places alone.
+fn promised(before: &[u8], after: &[u8]) -> Vec<u8> {
+    let (counts, places) = after.split_at(COUNTS);
+    let places = if before != after && !Entries::order_alike() { sorted(places) } else { places.to_vec() };
+    if Entries::counts_alike() {
+        [counts, &places].concat()
+    } else {
+        places
+    }
+}
+
+/// What the entry answers, and what is to be compared of the area that it leaves.
+fn answer(Side { entry, start }: Side, row: &Row, case: usize) -> (Answer, Vec<u8>) {
     let input = &row.inputs[case];
     let mut area = row.registers.get(case).map_or_else(|| row.area(), |register| register.area.clone());
     let answer = match entry {
@@ -85,26 +99,29 @@ fn answer(entry: Entry, row: &Row, case: usize) -> (Answer, Vec<u8>) {
         Entry::Test(entry) => Answer::Tested(entry::test(entry, input)),
         Entry::Measure(entry) => Answer::Measured(entry::measure(entry, input, &row.inputs[0])),
         Entry::Count(entry) => Answer::Counted(entry::count(entry, input, &row.inputs[0])),
-        Entry::Issue(entry) => Answer::Tested(entry::issue(entry, input, BORROWER, &mut area)),
-        Entry::Return(entry) => Answer::Tested(entry::take_back(entry, input, &mut area)),
+        Entry::Issue(entry) => Answer::Tested(entry::issue(entry, input, BORROWER, &mut area[start..])),
+        Entry::Return(entry) => Answer::Tested(entry::take_back(entry, input, &mut area[start..])),
         Entry::Ask(entry) => {
-            let (number, borrower, looks) = entry::ask(entry, input, &area);
+            let (number, borrower, looks) = entry::ask(entry, input, &area[start..]);
             Answer::Held((number, borrower), Entries::order_alike().then_some(looks))
         }
-        Entry::AskHolder(entry) => Answer::Held(revisions::ask_holder(entry, input, &area), None),
+        Entry::AskHolder(entry) => Answer::Held(revisions::ask_holder(entry, input, &area[start..]), None),
+        Entry::Counts(entry) => Answer::Out(entry::counts(entry, &area[start..])),
         Entry::Append(issue, take_back) => {
             Answer::Written(logs::append(&logs::records(input), &mut area, 0, writer(issue, take_back)))
         }
-        Entry::Replay(entry) => Answer::Replayed(entry::replay(entry, input, &mut area)),
+        Entry::Replay(entry) => Answer::Replayed(entry::replay(entry, input, &mut area[start..])),
     };
-    let changed = row.registers.get(case).is_some_and(|register| register.area != area);
-    (answer, if changed && !Entries::order_alike() { sorted(&area) } else { area })
+    match row.registers.get(case) {
+        Some(register) => (answer, promised(&register.area, &area)),
+        None => (answer, area),
+    }
 }
 
 /// Whether both answer alike, and with the number that the row states.
 fn alike(row: &Row, sides: Sides) -> bool {
     row.inputs.iter().enumerate().all(|(case, input)| {
-        let [before, after] = sides.map(|entry| answer(entry, row, case));
+        let [before, after] = sides.map(|side| answer(side, row, case));
         let stated = after.0.number() == row.number;
         if !stated {
             eprintln!("not as stated: {row}: {:?} after", after.0);
@@ -129,24 +146,31 @@ struct Areas<'a> {
 }
 
 /// Calls on the inputs in turn, and the time of them.
-fn run(entry: Entry, row: &Row, Areas { records, area, registers }: &mut Areas, calls: usize) -> Duration {
+fn run(Side { entry, start }: Side, row: &Row, Areas { records, area, registers }: &mut Areas, calls: usize) -> Duration {
     match entry {
         Entry::Writer(entry) => over(&row.inputs, calls, |input| entry::write(entry, input, area)),
         Entry::Test(entry) => over(&row.inputs, calls, |input| entry::test(entry, input)),
         Entry::Measure(entry) => over(&row.inputs, calls, |input| entry::measure(entry, input, &row.inputs[0])),
         Entry::Count(entry) => over(&row.inputs, calls, |input| entry::count(entry, input, &row.inputs[0])),
-        Entry::Issue(entry) => {
-            registers::over(&row.inputs, registers, calls, |text, area| entry::issue(entry, text, BORROWER, area))
-        }
+        Entry::Issue(entry) => registers::over(&row.inputs, registers, calls, |text, area| {
+            entry::issue(entry, text, BORROWER, &mut area[start..])
+        }),
         Entry::Return(entry) => {
-            registers::over(&row.inputs, registers, calls, |text, area| entry::take_back(entry, text, area))
+            registers::over(&row.inputs, registers, calls, |text, area| entry::take_back(entry, text, &mut area[start..]))
         }
-        Entry::Ask(entry) => registers::over(&row.inputs, registers, calls, |text, area| entry::ask(entry, text, area)),
+        Entry::Ask(entry) => {
+            registers::over(&row.inputs, registers, calls, |text, area| entry::ask(entry, text, &area[start..]))
+        }
         Entry::AskHolder(entry) => {
-            registers::over(&row.inputs, registers, calls, |text, area| revisions::ask_holder(entry, text, area))
+            registers::over(&row.inputs, registers, calls, |text, area| revisions::ask_holder(entry, text, &area[start..]))
+        }
+        Entry::Counts(entry) => {
+            registers::over(&row.inputs, registers, calls, |_, area| entry::counts(entry, &area[start..]))
         }
         Entry::Append(issue, take_back) => logs::over(records, area, calls, writer(issue, take_back)),
-        Entry::Replay(entry) => registers::over(&row.inputs, registers, calls, |log, area| entry::replay(entry, log, area)),
+        Entry::Replay(entry) => {
+            registers::over(&row.inputs, registers, calls, |log, area| entry::replay(entry, log, &mut area[start..]))
+        }
     }
 }
 
@@ -158,7 +182,7 @@ fn fastest(times: &[f64], one_in: usize) -> f64 {
 
 fn measure(row: &Row, sides: Sides) {
     // The same areas for both sides, so that they differ in nothing but the entry.
-    let records = if let Entry::Append(..) = sides[0] { logs::records(&row.inputs[0]) } else { Vec::new() };
+    let records = if let Entry::Append(..) = sides[0].entry { logs::records(&row.inputs[0]) } else { Vec::new() };
     let mut areas = Areas { records, area: row.area(), registers: row.registers.clone() };
     let calls = calls_in(TURN, |calls| run(sides[0], row, &mut areas, calls));
     let mut times = in_turns(ROUNDS, [calls; 2], |side, calls| run(sides[side], row, &mut areas, calls));
@@ -178,7 +202,8 @@ fn main() {
         "register" => rows.retain(|row| !row.registers.is_empty()),
         _ => exit(2),
     }
-    let both = rows.iter().filter_map(|row| Some((row, [Entries::before().of(row.call)?, Entries::after().of(row.call)?])));
+    let both =
+        rows.iter().filter_map(|row| Some((row, [Entries::before().side(row.call)?, Entries::after().side(row.call)?])));
     match mode.as_str() {
         "check" => {
             name_left_out(&rows);

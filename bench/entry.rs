@@ -23,6 +23,13 @@ pub struct Holder {
     looks: u32,
 }
 
+/// Its counts are those of the header, one behind the other.
+#[repr(C)]
+pub struct Counted {
+    number: u32,
+    counts: [u32; 8],
+}
+
 #[repr(C)]
 pub struct Replayed {
     number: u32,
@@ -45,6 +52,8 @@ pub type Issue = unsafe extern "C" fn(*const u8, usize, u32, *mut u8, usize) -> 
 pub type Return = unsafe extern "C" fn(*const u8, usize, *mut u8, usize) -> u32;
 /// Reads two areas: who has a code, and how many places were looked at.
 pub type Ask = unsafe extern "C" fn(*const u8, usize, *const u8, usize) -> Holder;
+/// Reads one area: how many codes are out.
+pub type Counts = unsafe extern "C" fn(*const u8, usize) -> Counted;
 
 /// Writes one area at a position, reads another: the record of a code that goes out to a borrower.
 pub type LogIssue = unsafe extern "C" fn(*mut u8, usize, usize, *const u8, usize, u32) -> Written;
@@ -89,6 +98,12 @@ pub fn ask(entry: Ask, text: &[u8], area: &[u8]) -> (u32, u32, u32) {
     // The areas are as long as said.
     let answer = unsafe { entry(text.as_ptr(), text.len(), area.as_ptr(), area.len()) };
     (answer.number, answer.borrower, answer.looks)
+}
+
+pub fn counts(entry: Counts, area: &[u8]) -> (u32, [u32; 8]) {
+    // The area is as long as said.
+    let answer = unsafe { entry(area.as_ptr(), area.len()) };
+    (answer.number, answer.counts)
 }
 
 pub fn append(issue: LogIssue, take_back: LogReturn, log: &mut [u8], position: usize, record: &Record) -> (u32, usize) {

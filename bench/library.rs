@@ -1,6 +1,6 @@
 //! The measured entries of the proved libraries, with the same signatures as the plain ones.
 
-use crate::entry::{self, DistanceAnswer, Holder, Replayed, Written};
+use crate::entry::{self, Counted, DistanceAnswer, Holder, Replayed, Written};
 use crate::logs::Record;
 
 extern "C" {
@@ -13,6 +13,7 @@ extern "C" {
     fn loans_issue(text: *const u8, text_len: usize, borrower: u32, area: *mut u8, area_len: usize) -> u32;
     fn loans_return(text: *const u8, text_len: usize, area: *mut u8, area_len: usize) -> u32;
     fn loans_ask(text: *const u8, text_len: usize, area: *const u8, area_len: usize) -> Holder;
+    fn loans_counts(area: *const u8, area_len: usize) -> Counted;
     fn loans_log_issue(
         log: *mut u8,
         log_len: usize,
@@ -62,6 +63,10 @@ pub fn take_back(text: &[u8], area: &mut [u8]) -> u32 {
 
 pub fn ask(text: &[u8], area: &[u8]) -> (u32, u32, u32) {
     entry::ask(loans_ask, text, area)
+}
+
+pub fn counts(area: &[u8]) -> (u32, [u32; 8]) {
+    entry::counts(loans_counts, area)
 }
 
 pub fn append(log: &mut [u8], position: usize, record: &Record) -> (u32, usize) {

@@ -32,6 +32,9 @@ const APPENDED: usize = 100_000;
 /// The proved and the plain side of a replay.
 const REPLAYS: [OnRegister<(u32, u32, usize)>; 2] = [library::replay, plain::replay];
 
+/// The proved and the plain side of the counts, which have no other input than the register.
+const COUNTS: [OnRegister<(u32, [u32; 8])>; 2] = [|_, area| library::counts(area), |_, area| plain::counts(area)];
+
 /// The proved and the plain side of a call on a register: its number, and of a question the borrower and the looks.
 fn sides(call: Loan) -> [OnRegister<(u32, u32, u32)>; 2] {
     match call {
@@ -113,6 +116,7 @@ fn figures(row: &Row) -> Option<Figures> {
         Call::Split | Call::Differing => return None,
         Call::Distance => distance(row),
         Call::Loan(call) => on_registers(row, sides(call)),
+        Call::Counts => on_registers(row, COUNTS),
         Call::Append => append(row),
         Call::Replay => on_registers(row, REPLAYS),
     })

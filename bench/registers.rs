@@ -9,6 +9,8 @@ use std::time::Duration;
 
 pub const PLACE: usize = 48;
 pub const PLACES: usize = 256;
+/// Bytes before the places: eight counts.
+pub const COUNTS: usize = 16;
 /// So many different registers are taken in turn, each with a text of its own. A cache can hold them.
 const REGISTERS: usize = 16;
 /// Whom a code is issued to.
@@ -18,17 +20,18 @@ pub const BORROWER: u32 = 0x0102_0304;
 #[derive(Clone)]
 pub struct Register {
     pub area: Vec<u8>,
-    /// Where the part starts, and its bytes as they were made.
+    /// As they were made: the counts, and the bytes of some places from an offset on.
+    counts: [u8; COUNTS],
     offset: usize,
     part: Vec<u8>,
 }
 
 impl Register {
-    /// The call may change these places.
+    /// The call may change the counts and these places.
     fn new(area: Vec<u8>, places: Range<usize>) -> Register {
-        let offset = PLACE * places.start;
-        let part = area[offset..PLACE * places.end].to_vec();
-        Register { area, offset, part }
+        let [offset, end] = [places.start, places.end].map(|place| COUNTS + PLACE * place);
+        let part = area[offset..end].to_vec();
+        Register { counts: *area.first_chunk().unwrap(), area, offset, part }
     }
 
     /// A replay may change every place.
@@ -38,6 +41,7 @@ impl Register {
 
     /// Undoes what the measured call changed.
     pub fn put_back(&mut self) {
+        self.area[..COUNTS].copy_from_slice(&self.counts);
         self.area[self.offset..self.offset + self.part.len()].copy_from_slice(&self.part);
     }
 }
@@ -85,14 +89,31 @@ pub fn codes_in_order(codes: Codes, count: usize, random: &mut Random) -> Vec<Ve
     all
 }
 
+/// The places that are not free.
+pub fn used_places(area: &[u8]) -> impl Iterator<Item = &[u8]> {
+    area[COUNTS..].chunks_exact(PLACE).filter(|place| place[0] != 0)
+}
+
+/// Writes the counts of the places that are not free: all of them, and those of each main type, which is in the first four bits
+/// of a code.
+pub fn count(area: &mut [u8]) {
+    let mut counts = [0u16; COUNTS / 2];
+    for place in used_places(area) {
+        counts[0] += 1;
+        counts[1 + (place[1] >> 4) as usize] += 1;
+    }
+    area[..COUNTS].copy_from_slice(&counts.map(u16::to_be_bytes).concat());
+}
+
 /// The register of these codes, which are in order.
 pub fn area_of(codes: &[Vec<u8>], random: &mut Random) -> Vec<u8> {
-    let mut area = vec![0; PLACES * PLACE];
-    for (place, code) in area.chunks_exact_mut(PLACE).zip(codes) {
+    let mut area = vec![0; COUNTS + PLACES * PLACE];
+    for (place, code) in area[COUNTS..].chunks_exact_mut(PLACE).zip(codes) {
         place[0] = code.len() as u8;
         place[1..=code.len()].copy_from_slice(code);
         place[PLACE - 4..].copy_from_slice(&random.bytes(4));
     }
+    count(&mut area);
     area
 }
 

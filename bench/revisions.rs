@@ -1,6 +1,7 @@
 //! The entries of both revisions. `bench/before` has named them before_NAME and after_NAME.
 
-use crate::entry::{Ask, Count, Issue, LogIssue, LogReturn, Measure, Replay, Return, Test, Writer};
+use crate::entry::{Ask, Count, Counts, Issue, LogIssue, LogReturn, Measure, Replay, Return, Test, Writer};
+use crate::registers::COUNTS;
 use crate::rows::{Call, Loan};
 use std::arch::global_asm;
 
@@ -29,8 +30,17 @@ pub enum Entry {
     Return(Return),
     Ask(Ask),
     AskHolder(AskHolder),
+    Counts(Counts),
     Append(LogIssue, LogReturn),
     Replay(Replay),
+}
+
+/// An entry of one revision.
+#[derive(Clone, Copy)]
+pub struct Side {
+    pub entry: Entry,
+    /// Where in the area of a row the register starts that this revision is lent.
+    pub start: usize,
 }
 
 // A table of addresses for each revision. The names are weak: one that a revision lacks is a null address, which is None.
@@ -77,6 +87,7 @@ entries! {
     loans_return: Return,
     loans_ask: Ask,
     loans_ask_holder: AskHolder,
+    loans_counts: Counts,
     loans_log_issue: LogIssue,
     loans_log_return: LogReturn,
     loans_replay: Replay,
@@ -103,7 +114,24 @@ impl Entries {
         Entries::before().loans_ask.is_some() == Entries::after().loans_ask.is_some()
     }
 
-    pub fn of(&self, call: Call) -> Option<Entry> {
+    /// Whether both keep counts before the places of a register, or both keep none: one that keeps them tells them.
+    pub fn counts_alike() -> bool {
+        Entries::before().start() == Entries::after().start()
+    }
+
+    /// A register without counts is its places alone. So both revisions have the same places, at the same addresses.
+    fn start(&self) -> usize {
+        match self.loans_counts {
+            Some(_) => 0,
+            None => COUNTS,
+        }
+    }
+
+    pub fn side(&self, call: Call) -> Option<Side> {
+        self.of(call).map(|entry| Side { entry, start: self.start() })
+    }
+
+    fn of(&self, call: Call) -> Option<Entry> {
         match call {
             Call::Intake => self.intake.map(Entry::Writer),
             Call::Strict => self.strict.map(Entry::Test),
@@ -118,6 +146,7 @@ impl Entries {
             Call::Loan(Loan::Issue) => self.loans_issue.map(Entry::Issue),
             Call::Loan(Loan::Return) => self.loans_return.map(Entry::Return),
             Call::Loan(Loan::Ask) => self.loans_ask.map(Entry::Ask).or(self.loans_ask_holder.map(Entry::AskHolder)),
+            Call::Counts => self.loans_counts.map(Entry::Counts),
             Call::Append => Some(Entry::Append(self.loans_log_issue?, self.loans_log_return?)),
             Call::Replay => self.loans_replay.map(Entry::Replay),
         }

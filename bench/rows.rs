@@ -20,12 +20,14 @@ pub enum Call {
     /// From the first of the inputs, bodies alone.
     Differing,
     Loan(Loan),
+    /// How many codes are out; its inputs are empty.
+    Counts,
     /// All records of a log, one by one.
     Append,
     Replay,
 }
 
-/// The calls on a register.
+/// The calls on a register that take a text.
 #[derive(Clone, Copy)]
 pub enum Loan {
     Issue,
@@ -70,6 +72,7 @@ impl Call {
             Call::Loan(Loan::Issue) => "issue",
             Call::Loan(Loan::Return) => "return",
             Call::Loan(Loan::Ask) => "ask",
+            Call::Counts => "counts",
             Call::Append => "append",
             Call::Replay => "replay",
         }
@@ -188,6 +191,11 @@ fn loan(call: Loan, codes: Codes, out: usize, input: impl Display) -> Row {
     Row { registers, ..row }
 }
 
+fn counts(codes: Codes, out: usize, input: impl Into<String>) -> Row {
+    let (texts, registers) = registers::made(codes, out, Wanted::NotOut);
+    Row { registers, ..row(Call::Counts, input, vec![Vec::new(); texts.len()]) }
+}
+
 pub fn register() -> Vec<Row> {
     let mut rows = Vec::new();
     for call in [Loan::Issue, Loan::Return, Loan::Ask] {
@@ -196,6 +204,10 @@ pub fn register() -> Vec<Row> {
         }
         rows.push(loan(call, Codes::Alike, PLACES, format!("{PLACES} out, alike but for four bytes")));
     }
+    for out in OUT {
+        rows.push(counts(Codes::Random, out, format!("{out} out")));
+    }
+    rows.push(counts(Codes::Mixed, PLACES, format!("{PLACES} out, of several main types")));
     rows
 }
 

@@ -1,11 +1,24 @@
 /*
- * The loans register: a code is issued to a borrower and taken back, and a question tells who has
- * it. And the pending issues log: issues and returns are written as records, from which another
- * hall makes the register again. The calls are in the same libraries as those of iscc.h, which says
- * how to link them.
+ * The loans register: a code is issued to a borrower and taken back, a question tells who has it,
+ * and counts tell how many are out. And the pending issues log: issues and returns are written as
+ * records, from which another hall makes the register again. The calls are in the same libraries as
+ * those of iscc.h, which says how to link them.
  *
  * Register. The register is one area of LOANS_REGISTER_AREA bytes that the caller lends to every
- * call: 256 places of 48 bytes. A place holds one code with its borrower, or it is free.
+ * call: LOANS_COUNTS_BYTES of counts, and behind them 256 places of 48 bytes. The counts are eight,
+ * in two bytes each, high byte first:
+ *
+ *   bytes 0 and 1     the codes that are out
+ *   bytes 2 and 3     those of them whose main type is 0, META
+ *   bytes 4 and 5     1, SEMANTIC
+ *   bytes 6 and 7     2, CONTENT
+ *   bytes 8 and 9     3, DATA
+ *   bytes 10 and 11   4, INSTANCE
+ *   bytes 12 and 13   5, ISCC: composites, wide ones too, and so lists of units
+ *   bytes 14 and 15   6, ID
+ *
+ * Each code has one of these main types, so that the seven sum to the first. A place holds one code
+ * with its borrower, or it is free:
  *
  *   byte 0            the length of the code in bytes, 6 to 42; 0 where the place is free
  *   bytes 1 to 42     the code, as iscc_code writes it, filled up with zeros
@@ -17,9 +30,10 @@
  * register, in which nothing is out. No byte depends on the machine: a register may be kept in a
  * file and read elsewhere.
  *
- * A register that version 0.4 or one before it has written is mostly in no order, and so 23: replay
- * its log onto zeros. A machine that stops inside a change may leave a place half written, and a
- * code twice or not at all. That is mostly 23 too, but it need not be: keep a copy, or the log.
+ * A register that a version before 0.6 has written is shorter, since it has no counts, and so 23:
+ * replay its log onto zeros. A machine that stops inside a change may leave a place half written, a
+ * code twice or not at all, and counts that are not true. That is mostly 23 too, but it need not
+ * be: keep a copy, or the log.
  *
  * A code is out where it stands in a place. Texts that mean the same are one code, however they are
  * typed: what was issued by its separate units is out for a question that types the composite.
@@ -31,9 +45,10 @@
  *   - a fill byte behind a code, a byte 43, or any byte of a place of length 0 is not zero;
  *   - a used place is behind a free one;
  *   - the codes of two used places, one right behind the other, do not rise: so also where a code
- *     stands in two places.
- * No call turns a register into such an area. Every call on a register tests the whole area, a
- * question too: its time grows with the codes that are out.
+ *     stands in two places;
+ *   - one of the eight counts is not what the used places give.
+ * No call turns a register into such an area. Every call on a register tests the whole area, also
+ * one that only reads it: its time grows with the codes that are out.
  *
  * Log. A log is records, one behind the other, from byte 0 on. A record is
  *
@@ -57,7 +72,8 @@
  *
  * Areas. As in iscc.h an area is a pointer and a length in bytes, and must be as long as stated.
  * An area that a call may write to, the register or the writer's log, must not overlap the text,
- * the code or the log that it reads; loans_ask only reads, so that there the two may overlap.
+ * the code or the log that it reads; loans_ask only reads, so that there the two may overlap, and
+ * loans_counts reads one area alone.
  * Beside this and the lock below nothing is taken on trust, no position and no byte of a log. A
  * null pointer with length 0 is an empty area: 1 as a text, 23 as a register, 24 as a code, and as
  * a log one without records.
@@ -65,16 +81,19 @@
  *     their bytes too.
  *   - The register is read and written in place. An issue or a return that is accepted keeps the
  *     bytes of every place before that of its code; from there on the used places move by one, up
- *     for an issue and down for a return.
+ *     for an issue and down for a return. Two counts change by one: the first, and that of the
+ *     code's main type.
  *   - The writer changes the bytes of its record and no other, and reads none of the log.
- *   - A refusal changes no byte, and neither does a question. Of all calls loans_replay alone
- *     leaves changes with a refusal: the records before the one that stops it stay applied.
+ *   - A refusal changes no byte, and neither do loans_ask and loans_counts. Of all calls
+ *     loans_replay alone leaves changes with a refusal: the records before the one that stops it
+ *     stay applied.
  *
  * Threads. No memory is taken and nothing is kept between calls: all that lasts is in the register
  * and the log. So several threads may call at once where each has a register and a log of its own,
- * or where all only read them: where all ask, or replay one log onto registers of their own.
- * Otherwise the caller holds a lock for the register, and one for the log and its position, over
- * every call; over a change and its record together, so that the log has them in their order.
+ * or where all only read them: where all ask or take the counts, or replay one log onto registers
+ * of their own. Otherwise the caller holds a lock for the register, and one for the log and its
+ * position, over every call; over a change and its record together, so that the log has them in
+ * their order.
  */
 #ifndef LOANS_H
 #define LOANS_H
@@ -85,8 +104,11 @@
 extern "C" {
 #endif
 
-/* The length of a register in bytes: LOANS_PLACES places of LOANS_PLACE_BYTES. */
-#define LOANS_REGISTER_AREA 12288
+/* The length of a register in bytes: its counts, then LOANS_PLACES places of LOANS_PLACE_BYTES. */
+#define LOANS_REGISTER_AREA 12304
+
+/* Where the places start. */
+#define LOANS_COUNTS_BYTES 16
 
 /* The most codes that can be out. */
 #define LOANS_PLACES 256
@@ -105,6 +127,22 @@ typedef struct {
     uint32_t borrower;
     uint32_t looks;
 } loans_holder;
+
+/*
+ * ISCC_OK, how many codes are out, and how many of them are of each main type; or ISCC_NOT_REGISTER
+ * and zeros.
+ */
+typedef struct {
+    uint32_t number;
+    uint32_t out;
+    uint32_t meta;
+    uint32_t semantic;
+    uint32_t content;
+    uint32_t data;
+    uint32_t instance;
+    uint32_t iscc;
+    uint32_t id;
+} loans_counted;
 
 /*
  * Issues the code of a typed text to a borrower. It makes room at its place in the order: the used
@@ -135,6 +173,16 @@ uint32_t loans_return(const uint8_t *text, size_t text_len, uint8_t *area, size_
  * Refusals: as loans_return.
  */
 loans_holder loans_ask(const uint8_t *text, size_t text_len, const uint8_t *area, size_t area_len);
+
+/*
+ * Tells how many codes are out, in all and by main type, as a morning sheet wants it: the eight
+ * counts of the register. A composite, a wide one too, counts under `iscc`, whether it was typed as
+ * such or as a list of its units, and not under the main types of its units. Nothing is out where
+ * ISCC_OK comes with zeros; only the answer's own number tells that from a refusal.
+ *
+ * Refusals: 23.
+ */
+loans_counted loans_counts(const uint8_t *area, size_t area_len);
 
 /*
  * Writes the record of an issue into the log, at the position. The answer's length is that of the

@@ -14,4 +14,4 @@ pub use distance::distance;
 pub use doors::{code, intake, strict, text};
 pub use join::join;
 pub use log::{log_issue, log_return, replay};
-pub use register::{ask, issue, take_back};
+pub use register::{ask, counts, issue, take_back};

@@ -1,5 +1,5 @@
-//! The register of loans: used places first, in rising order of their codes. Every call tests the whole area before it reads or
-//! writes a place.
+//! The register of loans: counts of the codes that are out, then the used places, in rising order of their codes. Every call
+//! tests the whole area before it reads or writes a place.
 
 use crate::doors::{code_of, Code, LONGEST_CODE};
 use crate::items;
@@ -11,10 +11,16 @@ const PLACE: usize = 48;
 const ZERO: usize = 1 + LONGEST_CODE;
 const BORROWER: usize = ZERO + 1;
 
-type Place = [u8; PLACE];
+/// In front of the places: the codes that are out, and those of each main type.
+const COUNTS: usize = 8;
 
-/// The places of a register, and how many of them are used.
+type Place = [u8; PLACE];
+/// A number, high byte first.
+type Count = [u8; 2];
+
+/// The parts of a register, and how many of its places are used.
 pub struct Register<'a> {
+    counts: &'a mut [Count],
     places: &'a mut [Place],
     used: usize,
 }
@@ -32,6 +38,11 @@ fn code_in(place: &Place) -> &[u8; LONGEST_CODE] {
     place[1..].first_chunk().unwrap()
 }
 
+/// It is in the first four bits of a code.
+fn main_type(code: &[u8; LONGEST_CODE]) -> usize {
+    (code[0] >> 4) as usize
+}
+
 /// Whether a place that is not free holds a code.
 fn is_loan(place: &Place) -> bool {
     let length = place[0] as usize;
@@ -47,28 +58,39 @@ fn are_free(places: &[Place]) -> bool {
     all == [0; PLACE]
 }
 
-/// How many places are used, if each holds a code behind the one before it and all the others are free.
-fn count_used(places: &[Place]) -> Option<usize> {
+/// The counts of the places, if each used one holds a code behind the one before it and all the others are free.
+fn count(places: &[Place]) -> Option<[u16; COUNTS]> {
+    let mut counts = [0; COUNTS];
     let mut before = None;
-    for (count, place) in places.iter().enumerate() {
+    for (used, place) in places.iter().enumerate() {
         if place[0] == 0 {
-            return are_free(&places[count..]).then_some(count);
+            return are_free(&places[used..]).then_some(counts);
         }
         if !is_loan(place) || before.is_some_and(|before| before >= code_in(place)) {
             return None;
         }
         before = Some(code_in(place));
+        counts[0] += 1;
+        counts[1 + main_type(code_in(place))] += 1;
     }
-    Some(places.len())
+    Some(counts)
 }
 
-/// The used places of an area that is a register, or 23.
-fn used_in(area: &[u8]) -> Result<&[Place], u32> {
-    let (places, rest) = area.as_chunks();
-    if places.len() != PLACES || !rest.is_empty() {
+/// The counts and the places of an area that has the length of a register.
+fn parts(area: &[u8]) -> Option<(&[Count], &[Place])> {
+    let (counts, places) = area.split_at_checked(COUNTS * size_of::<Count>())?;
+    let (places, rest) = places.as_chunks();
+    (places.len() == PLACES && rest.is_empty()).then_some((counts.as_chunks().0, places))
+}
+
+/// The counts of an area that is a register, and its used places, or 23.
+fn read(area: &[u8]) -> Result<([u16; COUNTS], &[Place]), u32> {
+    let (stated, places) = parts(area).ok_or(23u32)?;
+    let counts = count(places).ok_or(23u32)?;
+    if stated != counts.map(u16::to_be_bytes) {
         return Err(23);
     }
-    count_used(places).map(|count| &places[..count]).ok_or(23)
+    Ok((counts, &places[..counts[0] as usize]))
 }
 
 /// Halves the used places: where the code stands, or else where it would, and how many of them were looked at.
@@ -100,8 +122,16 @@ fn place_of(code: &Code, borrower: u32) -> Place {
 impl Register<'_> {
     /// Of an area that is a register, or 23.
     pub fn of(area: &mut [u8]) -> Result<Register<'_>, u32> {
-        let used = used_in(area)?.len();
-        Ok(Register { places: area.as_chunks_mut().0, used })
+        let used = read(area)?.1.len();
+        let (counts, places) = area.split_at_mut(COUNTS * size_of::<Count>());
+        Ok(Register { counts: counts.as_chunks_mut().0, places: places.as_chunks_mut().0, used })
+    }
+
+    /// The count of all codes and that of this one's main type change.
+    fn recount(&mut self, code: &Code, change: impl Fn(u16) -> u16) {
+        for at in [0, 1 + main_type(&code.bytes)] {
+            self.counts[at] = change(u16::from_be_bytes(self.counts[at])).to_be_bytes();
+        }
     }
 
     fn find(&self, code: &Code) -> Result<usize, usize> {
@@ -117,6 +147,7 @@ impl Register<'_> {
         self.places.copy_within(at..self.used, at + 1);
         self.places[at] = place_of(code, borrower);
         self.used += 1;
+        self.recount(code, |count| count + 1);
         Ok(())
     }
 
@@ -126,6 +157,7 @@ impl Register<'_> {
         self.places.copy_within(at + 1..self.used, at);
         self.used -= 1;
         self.places[self.used] = [0; PLACE];
+        self.recount(code, |count| count - 1);
         Ok(())
     }
 }
@@ -143,7 +175,7 @@ fn taken_back(text: &[u8], area: &mut [u8]) -> Result<(), u32> {
 /// Who has the code, if it is out, and how many places were looked at.
 fn asked(text: &[u8], area: &[u8]) -> Result<(Option<u32>, u32), u32> {
     let code = code_of(text)?;
-    let used = used_in(area)?;
+    let (_, used) = read(area)?;
     let (place, looks) = search(used, &code);
     Ok((place.ok().map(|at| u32::from_be_bytes(*used[at].last_chunk().unwrap())), looks))
 }
@@ -166,4 +198,10 @@ pub fn ask(text: &[u8], area: &[u8]) -> (u32, u32, u32) {
         Ok((None, looks)) => (22, 0, looks),
         Ok((Some(borrower), looks)) => (0, borrower, looks),
     }
+}
+
+/// The number, the counts.
+#[inline(never)]
+pub fn counts(area: &[u8]) -> (u32, [u32; COUNTS]) {
+    read(area).map_or_else(|number| (number, [0; COUNTS]), |(counts, _)| (0, counts.map(u32::from)))
 }

@@ -1,7 +1,8 @@
 /*
  * The loans register, as a counter keeps it: a code is issued, asked for, refused to a second
- * borrower and taken back, typed in several ways. Every answer is told, a refusal with its number
- * and a sentence. The exit status is 1 where an answer is not the one that is due.
+ * borrower and taken back, typed in several ways; the morning sheet says how many are out. Every
+ * answer is told, a refusal with its number and a sentence. The exit status is 1 where an answer is
+ * not the one that is due.
  *
  *   ./install target/installed
  *   export PKG_CONFIG_PATH=$PWD/target/installed/lib/pkgconfig
@@ -55,16 +56,34 @@ static loans_holder ask(const char *typed) {
     return holder;
 }
 
+/* The morning sheet, by the counts that the register keeps. */
+static loans_counted sheet(void) {
+    loans_counted counted = loans_counts(area, sizeof area);
+    char kinds[160];
+    snprintf(kinds, sizeof kinds,
+             "%u out: META %u, SEMANTIC %u, CONTENT %u, DATA %u, INSTANCE %u, ISCC %u, ID %u",
+             (unsigned)counted.out, (unsigned)counted.meta, (unsigned)counted.semantic,
+             (unsigned)counted.content, (unsigned)counted.data, (unsigned)counted.instance,
+             (unsigned)counted.iscc, (unsigned)counted.id);
+    printf("sheet: ");
+    tell(counted.number, kinds);
+    return counted;
+}
+
 int main(void) {
     /* One code: its units, the same in small letters the other way round, and the composite. */
     const char *label = "GAAW2PRCRS5LNVZV-IAAUVACQKXE3V44W";
     const char *typed = "iscc:iaauvacqkxe3v44w-gaaw2prcrs5lnvzv";
     const char *composite = "ISCC:KUAG2PRCRS5LNVZVJKAFAVOJXLZZM";
+    const char *other = "MAAGZTFQTTVIZPJR";
 
     if (issue(label, 1204) != ISCC_OK) return 1;
     if (ask(typed).borrower != 1204) return 1;
     if (issue(composite, 77) != ISCC_ALREADY_OUT) return 1;
+    if (issue(other, 77) != ISCC_OK) return 1;
+    if (sheet().out != 2) return 1;
     if (take_back(typed) != ISCC_OK) return 1;
     if (ask(label).number != ISCC_NOT_OUT) return 1;
+    if (sheet().out != 1) return 1;
     return 0;
 }

@@ -209,7 +209,7 @@ def _written(call: Callable[..., _Written], data: bytes, area: int) -> bytes:
 
 
 def version() -> str:
-    """The version of the library, as '0.5.0'."""
+    """The version of the library, as '0.6.0'."""
     number = int(_library().iscc_version())
     return f"{number >> 16}.{number >> 8 & 255}.{number & 255}"
 

@@ -6,6 +6,7 @@
     register.issue("GAAW2PRCRS5LNVZV-IAAUVACQKXE3V44W", 1204)
     register.ask("iscc:iaauvacqkxe3v44w-gaaw2prcrs5lnvzv")      # 1204
     register.find("iscc:iaauvacqkxe3v44w-gaaw2prcrs5lnvzv")     # Found(borrower=1204, looks=1)
+    register.counts().out                                       # 1
     register.take_back("ISCC:KUAG2PRCRS5LNVZVJKAFAVOJXLZZM")
 
 A counter writes a record for each change that its register accepts; another hall replays the log:
@@ -33,12 +34,12 @@ from typing import Any, NamedTuple, Union
 
 import iscc
 
-__all__ = ["AREA", "RECORD_MOST", "Area", "Found", "Log", "Register", "Stopped"]
+__all__ = ["AREA", "RECORD_MOST", "Area", "Counts", "Found", "Log", "Register", "Stopped"]
 
-AREA = 12288  # the length of a register in bytes
+AREA = 12304  # the length of a register in bytes
 RECORD_MOST = 49  # the longest record of a log in bytes
 _TORN, _STOPPED = 2, 3  # how a replay can end, in loans.h
-_OLDEST = 0x0500  # version 0.5.0: before it a question did not tell its looks
+_OLDEST = 0x0600  # version 0.6.0: before it a register had no counts
 Area = Union[bytearray, memoryview, mmap.mmap]
 
 
@@ -47,6 +48,20 @@ class _Holder(ctypes.Structure):
         ("number", ctypes.c_uint32),
         ("borrower", ctypes.c_uint32),
         ("looks", ctypes.c_uint32),
+    ]
+
+
+class _Counted(ctypes.Structure):
+    _fields_ = [
+        ("number", ctypes.c_uint32),
+        ("out", ctypes.c_uint32),
+        ("meta", ctypes.c_uint32),
+        ("semantic", ctypes.c_uint32),
+        ("content", ctypes.c_uint32),
+        ("data", ctypes.c_uint32),
+        ("instance", ctypes.c_uint32),
+        ("iscc", ctypes.c_uint32),
+        ("id", ctypes.c_uint32),
     ]
 
 
@@ -63,6 +78,19 @@ class Found(NamedTuple):
 
     borrower: int | None
     looks: int
+
+
+class Counts(NamedTuple):
+    """How many codes are out, and how many of them are of each main type; composites are ISCC."""
+
+    out: int
+    meta: int
+    semantic: int
+    content: int
+    data: int
+    instance: int
+    iscc: int
+    id: int
 
 
 class Stopped(iscc.Refused):
@@ -86,6 +114,8 @@ def _declare(library: ctypes.CDLL) -> None:
     library.loans_return.argtypes = library.loans_ask.argtypes = text + area
     library.loans_issue.restype = library.loans_return.restype = ctypes.c_uint32
     library.loans_ask.restype = _Holder
+    library.loans_counts.argtypes = area
+    library.loans_counts.restype = _Counted
     library.loans_log_return.argtypes = [*area, ctypes.c_size_t, *text]
     library.loans_log_issue.argtypes = [*area, ctypes.c_size_t, *text, ctypes.c_uint32]
     library.loans_log_return.restype = library.loans_log_issue.restype = iscc._Written
@@ -96,14 +126,14 @@ def _declare(library: ctypes.CDLL) -> None:
 @functools.cache
 def _library() -> ctypes.CDLL:
     library = iscc._library()
+    if library.iscc_version() < _OLDEST:
+        said = f"{library._name} has version {iscc.version()}; this module needs 0.6.0 or later"
+        raise iscc.WrongLibrary(said)
     try:
         _declare(library)
     except AttributeError as error:
         said = f"{library._name} has no loans register or no log: {error}"
         raise iscc.WrongLibrary(said) from None
-    if library.iscc_version() < _OLDEST:
-        said = f"{library._name} has version {iscc.version()}; this module needs 0.5.0 or later"
-        raise iscc.WrongLibrary(said)
     return library
 
 
@@ -155,11 +185,12 @@ class Register:
         """Issues a code to a borrower, a 32-bit number. Refused: intake's numbers, 23, 20, 21."""
         _check_borrower(borrower)
         data = iscc._text_bytes(text)
-        _check_number(self._call(_library().loans_issue, data, borrower))
+        _check_number(self._call(_library().loans_issue, data, len(data), borrower))
 
     def take_back(self, text: iscc.Text) -> None:
         """Takes a code back, whoever has it. Refused: intake's numbers, 23, 22 (not out)."""
-        _check_number(self._call(_library().loans_return, iscc._text_bytes(text)))
+        data = iscc._text_bytes(text)
+        _check_number(self._call(_library().loans_return, data, len(data)))
 
     def ask(self, text: iscc.Text) -> int:
         """The borrower who has a code. Refused: intake's numbers, 23, 22 (not out)."""
@@ -175,6 +206,12 @@ class Register:
         _check_number(holder.number)
         return Found(holder.borrower, holder.looks)
 
+    def counts(self) -> Counts:
+        """How many codes are out, in all and by main type. Refused: 23."""
+        counted: _Counted = self._call(_library().loans_counts)
+        _check_number(counted.number)
+        return Counts(*(getattr(counted, name) for name in Counts._fields))
+
     def replay(self, log: iscc.Bytes) -> int | None:
         """Applies the records of a log, from the left.
 
@@ -183,20 +220,21 @@ class Register:
         with 24, 20, 21 or 22, and those before it stay applied. Refused: 23, before all else.
         """
         data = _log_bytes(log)
-        answer: _Replayed = self._call(_library().loans_replay, data)
+        answer: _Replayed = self._call(_library().loans_replay, data, len(data))
         if answer.end == _STOPPED:
             raise Stopped(answer.number, answer.offset)
         _check_number(answer.number)
         return answer.offset if answer.end == _TORN else None
 
     def _ask(self, text: iscc.Text) -> _Holder:
-        holder: _Holder = self._call(_library().loans_ask, iscc._text_bytes(text))
+        data = iscc._text_bytes(text)
+        holder: _Holder = self._call(_library().loans_ask, data, len(data))
         return holder
 
-    def _call(self, call: Callable[..., Any], data: bytes, *more: int) -> Any:
+    def _call(self, call: Callable[..., Any], *given: bytes | int) -> Any:
         # The lock is needed, since ctypes lets other threads run during a call.
         with self._lock:
-            return call(data, len(data), *more, *_lent(self.area))
+            return call(*given, *_lent(self.area))
 
 
 def _log_bytes(log: iscc.Bytes) -> bytes:

@@ -26,15 +26,31 @@ sys.dont_write_bytecode = True
 import iscc  # noqa: E402
 import loans  # noqa: E402
 import test_iscc  # noqa: E402
+from test_iscc import CONTENT, DATA, INSTANCE, META, SEMANTIC  # noqa: E402
 from test_iscc import HERE, TOP, TYPED, WRITTEN, Call, answer  # noqa: E402
 
 HEADER = (TOP / "include" / "loans.h").read_text("ascii")
 PLACES = 256
+COUNTS = 16  # bytes before the places
+WIDE = "ISCC:K4AAAAICAMCAKBQHBAEQUCYMBUHA6EARCIJRIFIWC4MBSGQ3DQOR4HY"
+ID = "MAAGZTFQTTVIZPJR"
 
 
 def label(index: int) -> str:
     """One of many codes, which differ in their last two bytes alone."""
     return iscc.text(bytes.fromhex("3001") + index.to_bytes(8, "big"))
+
+
+def place_of(code: bytes, borrower: int) -> bytes:
+    """The bytes of a used place."""
+    return bytes([len(code)]) + code.ljust(43, b"\0") + borrower.to_bytes(4, "big")
+
+
+def area_of(places: list[bytes]) -> bytes:
+    """The register of these places, which are in order: counts, places, free places."""
+    counts = [len(places)] + [sum(place[1] >> 4 == kind for place in places) for kind in range(7)]
+    numbers = b"".join(count.to_bytes(2, "big") for count in counts)
+    return (numbers + b"".join(places)).ljust(loans.AREA, b"\0")
 
 
 def looks_for(index: int, out: list[int]) -> int:
@@ -64,12 +80,22 @@ class Header(unittest.TestCase):
         found = re.search(r"^#define LOANS_REGISTER_AREA (\d+)$", HEADER, re.MULTILINE)
         assert found
         self.assertEqual(loans.AREA, int(found[1]))
-
-    def test_holder(self) -> None:
-        found = re.search(r"^typedef struct {([^}]+)} loans_holder;$", HEADER, re.MULTILINE)
+        found = re.search(r"^#define LOANS_COUNTS_BYTES (\d+)$", HEADER, re.MULTILINE)
         assert found
-        names = re.findall(r"^    uint32_t (\w+);$", found[1], re.MULTILINE)
-        self.assertEqual(names, [field[0] for field in loans._Holder._fields_])
+        self.assertEqual(COUNTS, int(found[1]))
+
+    def fields(self, name: str) -> list[str]:
+        """The fields of a struct whose fields are all 32-bit numbers."""
+        found = re.search(rf"^typedef struct {{([^}}]+)}} {name};$", HEADER, re.MULTILINE)
+        assert found
+        return re.findall(r"^    uint32_t (\w+);$", found[1], re.MULTILINE)
+
+    def test_structs(self) -> None:
+        holder = [field[0] for field in loans._Holder._fields_]
+        counted = [field[0] for field in loans._Counted._fields_]
+        self.assertEqual(self.fields("loans_holder"), holder)
+        self.assertEqual(self.fields("loans_counted"), counted)
+        self.assertEqual(counted, ["number", *loans.Counts._fields])
 
     def test_star(self) -> None:
         given: dict[str, object] = {}
@@ -111,20 +137,43 @@ class Calls(unittest.TestCase):
         register.issue(TYPED, 0x01020304)
         code = iscc.code(TYPED)
         place = bytes([len(code)]) + code.ljust(43, b"\0") + bytes([1, 2, 3, 4])
-        self.assertEqual(bytes(register.area), place.ljust(loans.AREA, b"\0"))
+        counts = bytes([0, 1, *bytes(10), 0, 1, 0, 0])
+        self.assertEqual(bytes(register.area), (counts + place).ljust(loans.AREA, b"\0"))
 
     def test_order(self) -> None:
         register = loans.Register()
         places = {}
         for index in (3, 1, 4, 2):
             register.issue(label(index), index)
-            code = iscc.code(label(index))
-            places[index] = bytes([len(code)]) + code.ljust(43, b"\0") + index.to_bytes(4, "big")
-            due = b"".join(places[out] for out in sorted(places))
-            self.assertEqual(bytes(register.area), due.ljust(loans.AREA, b"\0"))
+            places[index] = place_of(iscc.code(label(index)), index)
+            due = area_of([places[out] for out in sorted(places)])
+            self.assertEqual(bytes(register.area), due)
         register.take_back(label(2))
-        due = places[1] + places[3] + places[4]
-        self.assertEqual(bytes(register.area), due.ljust(loans.AREA, b"\0"))
+        self.assertEqual(bytes(register.area), area_of([places[1], places[3], places[4]]))
+
+    def test_counts(self) -> None:
+        register = loans.Register()
+        self.assertEqual(register.counts(), loans.Counts(0, 0, 0, 0, 0, 0, 0, 0))
+        meta, *others = map(iscc.text, (META, SEMANTIC, CONTENT, DATA, INSTANCE))
+        for text in (meta, *others, TYPED, WIDE, ID):
+            register.issue(text, 1)
+        due = loans.Counts(8, meta=1, semantic=1, content=1, data=1, instance=1, iscc=2, id=1)
+        self.assertEqual(register.counts(), due)
+        self.assertEqual(answer(register.issue, WRITTEN, 2), 20)
+        self.assertEqual(register.counts(), due)
+        register.take_back(WRITTEN)
+        register.take_back(meta)
+        due = loans.Counts(6, meta=0, semantic=1, content=1, data=1, instance=1, iscc=1, id=1)
+        self.assertEqual(register.counts(), due)
+        register.take_back(ID)
+        self.assertEqual(register.counts(), due._replace(out=5, id=0))
+
+    def test_counts_of_all(self) -> None:
+        register = full()  # 256 takes both bytes
+        self.assertEqual(register.counts(), loans.Counts(256, 0, 0, 0, 256, 0, 0, 0))
+        self.assertEqual(bytes(register.area[:COUNTS]), bytes([1, 0, *bytes(6), 1, *bytes(7)]))
+        register.take_back(label(9))
+        self.assertEqual(register.counts(), loans.Counts(255, 0, 0, 0, 255, 0, 0, 0))
 
     def test_looks(self) -> None:
         for count in (0, 1, 2, 3, 16, 255, 256):
@@ -154,13 +203,18 @@ class Calls(unittest.TestCase):
             self.refused(register, number, register.find, text)
 
     def test_not_a_register(self) -> None:
-        damaged, exchanged, hole = full().area, full().area, full().area
-        damaged[0] = 43
-        exchanged[:96] = exchanged[48:96] + exchanged[:48]
-        hole[:48] = bytes(48)
-        lengths = (bytearray(), bytearray(loans.AREA - 1), bytearray(loans.AREA + 1))
-        for area in (*lengths, damaged, exchanged, hole):
-            register = loans.Register(area)
+        whole, one = bytes(full().area), area_of([place_of(iscc.code(TYPED), 1)])
+        first, second = whole[16:64], whole[64:112]
+        areas = [b"", whole[:-1], whole + b"\0"]
+        areas += [whole[COUNTS:], bytes(loans.AREA - COUNTS)]  # as they were before 0.6
+        areas.append(whole[:16] + bytes([43]) + whole[17:])
+        areas.append(whole[:16] + second + first + whole[112:])
+        areas.append(one[:16] + bytes(48) + one[16:-48])
+        for offset in range(COUNTS):
+            areas.append(whole[:offset] + bytes([whole[offset] ^ 1]) + whole[offset + 1 :])
+        for area in areas:
+            register = loans.Register(bytearray(area))
+            self.refused(register, 23, register.counts)
             self.refused(register, 23, register.issue, TYPED, 1)
             self.refused(register, 23, register.take_back, TYPED)
             self.refused(register, 23, register.ask, TYPED)
@@ -174,7 +228,7 @@ class Areas(unittest.TestCase):
         area = bytearray(loans.AREA + 96)
         register = loans.Register(memoryview(area)[48:-48])
         register.issue(TYPED, 5)
-        self.assertEqual(area[:49], bytes(48) + bytes([18]))
+        self.assertEqual(area[:50], bytes(49) + bytes([1]))
         self.assertEqual(loans.Register(area[48:-48]).ask(TYPED), 5)
 
     def test_in_a_file(self) -> None:
@@ -269,6 +323,18 @@ class Log(unittest.TestCase):
         standby = loans.Register()
         self.assertIsNone(standby.replay(log.records()))
         self.assertEqual(standby.area, live.area)
+        self.assertEqual(standby.counts(), loans.Counts(100, 0, 0, 0, 100, 0, 0, 0))
+
+    def test_counts(self) -> None:
+        log = loans.Log(bytearray(6 * loans.RECORD_MOST))
+        for text in (TYPED, WIDE, ID, label(1)):
+            log.issue(iscc.code(text), 5)
+        log.take_back(iscc.code(WIDE))
+        log.take_back(iscc.code(WIDE))  # not out any more: it stops the replay
+        register = loans.Register()
+        self.assertEqual(answer(register.replay, log.records()), 22)
+        due = loans.Counts(3, meta=0, semantic=0, content=0, data=1, instance=0, iscc=1, id=1)
+        self.assertEqual(register.counts(), due)
 
     def stops(self, register: loans.Register, log: bytes, number: int, offset: int) -> None:
         with self.assertRaises(loans.Stopped) as caught:
@@ -380,7 +446,7 @@ class Threads(unittest.TestCase):
 
 
 class Library(unittest.TestCase):
-    """A library of an older version, which has no register, or one that tells no looks."""
+    """A library of an older version, whose register has no counts, or one without a register."""
 
     def older(self, minor: int, headers: str) -> tuple[str, str]:
         """The path of a library with the calls of these headers, and what a question says of it."""
@@ -397,13 +463,14 @@ class Library(unittest.TestCase):
         return older, said
 
     def test_without_register(self) -> None:
-        older, said = self.older(1, test_iscc.HEADER)
+        older, said = self.older(6, test_iscc.HEADER)
         self.assertIn(f"WrongLibrary: {older} has no loans register or no log", said)
 
-    def test_without_looks(self) -> None:
-        older, said = self.older(4, test_iscc.HEADER + HEADER)
-        due = f"WrongLibrary: {older} has version 0.4.0; this module needs 0.5.0 or later"
-        self.assertIn(due, said)
+    def test_without_counts(self) -> None:
+        for headers in (test_iscc.HEADER + HEADER, test_iscc.HEADER):
+            older, said = self.older(5, headers)
+            due = f"WrongLibrary: {older} has version 0.5.0; this module needs 0.6.0 or later"
+            self.assertIn(due, said)
 
 
 if __name__ == "__main__":

@@ -84,9 +84,15 @@ static void check_register(void) {
     expect(loans_issue(text, 10, 5, area, sizeof area) == ISCC_OK, "not issued", 5);
     expect(loans_ask(text, 10, area, sizeof area).borrower == 5, "another borrower", 5);
     expect(loans_ask(text, 10, area, sizeof area).looks == 1, "other looks", 1);
+    expect(loans_counts(area, sizeof area).out == 1, "another count", 1);
+    expect(loans_counts(area, sizeof area).data == 1, "another count of DATA", 1);
+    expect(loans_counts(area, sizeof area - LOANS_COUNTS_BYTES).number == ISCC_NOT_REGISTER,
+           "counts of a shorter area", ISCC_NOT_REGISTER);
     expect(loans_return(text, 10, area, sizeof area) == ISCC_OK, "not taken back", 5);
     expect(loans_ask(text, 10, area, sizeof area).number == ISCC_NOT_OUT, "still out", 5);
     expect(loans_ask(text, 10, area, sizeof area).looks == 0, "other looks", 0);
+    expect(loans_counts(area, sizeof area).number == ISCC_OK, "no counts", 0);
+    expect(loans_counts(area, sizeof area).out == 0, "another count", 0);
 }
 
 static void check_log(void) {
@@ -99,7 +105,9 @@ static void check_log(void) {
     expect(first == 13 && second == 9, "other records", 5);
     expect(answer.number == ISCC_OK && answer.end == LOANS_TORN, "no tear", answer.end);
     expect(answer.offset == first, "another offset", (uint32_t)answer.offset);
-    expect(area[0] == sizeof code && area[47] == 5, "not replayed", 5);
+    expect(area[LOANS_COUNTS_BYTES] == sizeof code, "not replayed", 5);
+    expect(area[LOANS_COUNTS_BYTES + 47] == 5, "another borrower", 5);
+    expect(area[1] == 1 && area[9] == 1, "not counted", 1);
 }
 
 int main(void) {

@@ -5,9 +5,10 @@
 #include "expect.h"
 #include "loans.h"
 
-/* The bytes of a register, and of a place, once more: the header's numbers are held against these. */
-enum { REGISTER = 12288, PLACES = 256, PLACE = 48 };
-_Static_assert(LOANS_REGISTER_AREA == REGISTER && LOANS_PLACES == PLACES && LOANS_PLACE_BYTES == PLACE, "the layout");
+/* The bytes of a register, of its counts and of a place, once more: the header's numbers are held against these. */
+enum { REGISTER = 12304, COUNTS = 16, PLACES = 256, PLACE = 48 };
+_Static_assert(LOANS_REGISTER_AREA == REGISTER && LOANS_COUNTS_BYTES == COUNTS, "the layout");
+_Static_assert(LOANS_PLACES == PLACES && LOANS_PLACE_BYTES == PLACE, "the places");
 
 /* One code typed in three ways, and what a place holds of it. */
 #define UNITS "GAAW2PRCRS5LNVZV-IAAUVACQKXE3V44W"
@@ -29,6 +30,10 @@ static const uint8_t wide_code[34] = {0x57, 0x00, 0x00, 0x01, 0x02, 0x03, 0x04, 
                                       0x0a, 0x0b, 0x0c, 0x0d, 0x0e, 0x0f, 0x10, 0x11, 0x12, 0x13, 0x14, 0x15,
                                       0x16, 0x17, 0x18, 0x19, 0x1a, 0x1b, 0x1c, 0x1d, 0x1e, 0x1f};
 
+/* An ID and its bytes. */
+#define AN_ID "MAAGZTFQTTVIZPJR"
+static const uint8_t id_code[] = {0x60, 0x00, 0x6c, 0xcc, 0xb0, 0x9c, 0xea, 0x8c, 0xbd, 0x31};
+
 typedef enum { ISSUE, RETURN, ASK } loans_call;
 
 static uint8_t *fresh_register(void) {
@@ -37,13 +42,42 @@ static uint8_t *fresh_register(void) {
     return area;
 }
 
-/* A place as it must be: written here by the layout, not by a call. */
+static size_t offset_of(size_t place) {
+    return COUNTS + place * PLACE;
+}
+
+/* The number that stands there in two bytes, high byte first. */
+static void put_count(uint8_t *area, size_t index, size_t count) {
+    area[2 * index] = (uint8_t)(count >> 8);
+    area[2 * index + 1] = (uint8_t)count;
+}
+
+/* The counts as they must be of the places that are not free, counted once more here: the upper half of a code's first byte is
+ * its main type. Of an area that is no register they are those of its length bytes, so that nothing else is wrong with it. */
+static void count_places(uint8_t *area) {
+    size_t counts[COUNTS / 2] = {0};
+    for (size_t place = 0; place < PLACES; place++) {
+        const uint8_t *bytes = area + offset_of(place);
+        if (bytes[0] == 0) continue;
+        counts[0]++;
+        if (bytes[1] >> 4 < 7) counts[1 + (bytes[1] >> 4)]++;
+    }
+    for (size_t i = 0; i < COUNTS / 2; i++) put_count(area, i, counts[i]);
+}
+
+static void free_place(uint8_t *area, size_t place) {
+    memset(area + offset_of(place), 0, PLACE);
+    count_places(area);
+}
+
+/* A place as it must be, and counts that go with it: written here by the layout, not by a call. */
 static void put_place(uint8_t *area, size_t place, const uint8_t *code, uint8_t length, uint32_t borrower) {
-    uint8_t *bytes = area + place * PLACE;
+    uint8_t *bytes = area + offset_of(place);
     memset(bytes, 0, PLACE);
     bytes[0] = length;
     memcpy(bytes + 1, code, length);
     for (int i = 0; i < 4; i++) bytes[44 + i] = (uint8_t)(borrower >> (24 - 8 * i));
+    count_places(area);
 }
 
 /* Whether a code comes before the code of a place, is the same or comes behind it: below 0, 0 or above 0. */
@@ -57,10 +91,10 @@ static int compared(const uint8_t *code, size_t length, const uint8_t *place) {
 static uint32_t looks_for(const uint8_t *area, const uint8_t *code, size_t length) {
     size_t first = 0, count = 0;
     uint32_t looks = 0;
-    while (count < PLACES && area[count * PLACE] != 0) count++;
+    while (count < PLACES && area[offset_of(count)] != 0) count++;
     while (count > 0) {
         size_t before = count / 2, middle = first + before;
-        int order = compared(code, length, area + middle * PLACE);
+        int order = compared(code, length, area + offset_of(middle));
         looks++;
         if (order == 0) break;
         if (order > 0) first = middle + 1;
@@ -116,14 +150,35 @@ static void call_keeps(loans_call call, const void *text, size_t text_len, uint8
 
 /* The places from this one on move one up, and it holds the loan; those behind all used ones are zeros. */
 static void make_room(uint8_t *area, size_t place, const uint8_t *code, uint8_t length, uint32_t borrower) {
-    memmove(area + (place + 1) * PLACE, area + place * PLACE, (PLACES - 1 - place) * PLACE);
+    memmove(area + offset_of(place + 1), area + offset_of(place), (PLACES - 1 - place) * PLACE);
     put_place(area, place, code, length, borrower);
 }
 
 /* The places behind this one move one down, and zeros come behind them. */
 static void close_gap(uint8_t *area, size_t place) {
-    memmove(area + place * PLACE, area + (place + 1) * PLACE, (PLACES - 1 - place) * PLACE);
-    memset(area + (PLACES - 1) * PLACE, 0, PLACE);
+    memmove(area + offset_of(place), area + offset_of(place + 1), (PLACES - 1 - place) * PLACE);
+    free_place(area, PLACES - 1);
+}
+
+/* The counts of an area of just its length, which keeps its bytes. */
+static void counted(const uint8_t *area, size_t area_len, loans_counted due, const char *of) {
+    uint8_t *lent = copy_of(area, area_len);
+    loans_counted answer = loans_counts(lent, area_len);
+    expect_same("number of counts", answer.number, due.number, of);
+    expect_same("out", answer.out, due.out, of);
+    expect_same("meta", answer.meta, due.meta, of);
+    expect_same("semantic", answer.semantic, due.semantic, of);
+    expect_same("content", answer.content, due.content, of);
+    expect_same("data", answer.data, due.data, of);
+    expect_same("instance", answer.instance, due.instance, of);
+    expect_same("iscc", answer.iscc, due.iscc, of);
+    expect_same("id", answer.id, due.id, of);
+    if (area_len > 0) expect(memcmp(lent, area, area_len) == 0, "other bytes in the register", of);
+    free(lent);
+}
+
+static void not_counted(const uint8_t *area, size_t area_len, const char *of) {
+    counted(area, area_len, (loans_counted){.number = ISCC_NOT_REGISTER}, of);
 }
 
 /* An issue that is accepted: this is its place in the order. */
@@ -397,7 +452,7 @@ static void loans_texts(void) {
     uint8_t *area = fresh_register(), *damaged = fresh_register();
     memset(long_text, ' ', sizeof long_text);
     memset(long_run, 'A', sizeof long_run);
-    damaged[0] = 1;
+    damaged[COUNTS] = 1;
     put_place(area, 0, composite_code, sizeof composite_code, 1);
     for (size_t i = 0; i < sizeof refused / sizeof *refused; i++) {
         size_t length = strlen(refused[i].typed);
@@ -411,15 +466,18 @@ static void loans_texts(void) {
     free(damaged);
 }
 
-/* Zeros are a register in one length alone. */
+/* Zeros are a register in one length alone: without the counts they were one before version 0.6. */
 static void loans_lengths(void) {
-    const size_t lengths[] = {1, PLACE, REGISTER - PLACE, REGISTER - 1, REGISTER + 1, REGISTER + PLACE, 2 * REGISTER};
+    const size_t lengths[] = {1, COUNTS, PLACE, REGISTER - PLACE, REGISTER - COUNTS, REGISTER - 1, REGISTER + 1,
+                              REGISTER + COUNTS, REGISTER + PLACE, 2 * REGISTER};
     for (size_t i = 0; i < sizeof lengths / sizeof *lengths; i++) {
         uint8_t *area = calloc(1, lengths[i]);
         if (area == NULL) abort();
         all_refuse(COMPOSITE, strlen(COMPOSITE), area, lengths[i], ISCC_NOT_REGISTER, "another length");
+        not_counted(area, lengths[i], "another length");
         free(area);
     }
+    not_counted(NULL, 0, "null register");
     all_refuse(COMPOSITE, strlen(COMPOSITE), NULL, 0, ISCC_NOT_REGISTER, "null register");
     all_refuse(NULL, 0, NULL, 0, ISCC_EMPTY_TEXT, "null text and register");
 }
@@ -436,12 +494,14 @@ static uint8_t *two_out(void) {
 static void not_a_register(uint8_t *area, const char *of) {
     all_refuse(COMPOSITE, strlen(COMPOSITE), area, REGISTER, ISCC_NOT_REGISTER, of);
     all_refuse(SHORTEST, strlen(SHORTEST), area, REGISTER, ISCC_NOT_REGISTER, of);
+    not_counted(area, REGISTER, of);
 }
 
-/* One byte at a time: of a used place, of one without fill bytes, and of a free one. */
+/* One byte at a time: of a used place, of one without fill bytes, and of a free one. The counts go with what the length bytes
+ * say then. */
 static void loans_damaged(void) {
     const struct {
-        size_t offset;
+        size_t offset; /* behind the counts */
         uint8_t byte;
         const char *what;
     } damages[] = {
@@ -462,12 +522,13 @@ static void loans_damaged(void) {
         {2 * PLACE + 1, 1, "first byte behind length 0"},
         {2 * PLACE + 43, 1, "zero byte of a free place"},
         {2 * PLACE + 44, 1, "borrower of a free place"},
-        {REGISTER - PLACE, 5, "length of the last place"},
-        {REGISTER - 1, 1, "last byte"},
+        {PLACES * PLACE - PLACE, 5, "length of the last place"},
+        {PLACES * PLACE - 1, 1, "last byte"},
     };
     for (size_t i = 0; i < sizeof damages / sizeof *damages; i++) {
         uint8_t *area = two_out();
-        area[damages[i].offset] = damages[i].byte;
+        area[COUNTS + damages[i].offset] = damages[i].byte;
+        count_places(area);
         not_a_register(area, damages[i].what);
         free(area);
     }
@@ -484,10 +545,10 @@ static void loans_wrong_codes(void) {
     put_place(area, 2, wide_code, sizeof wide_code - 1, 3);
     not_a_register(area, "a cut wide composite");
     put_place(area, 2, wide_code, sizeof wide_code, 3);
-    area[2 * PLACE] = sizeof wide_code + 1;
+    area[offset_of(2)] = sizeof wide_code + 1;
     not_a_register(area, "a wide composite and a byte");
-    area[2 * PLACE] = sizeof wide_code;
-    area[2 * PLACE + 2] = 0x01;
+    area[offset_of(2)] = sizeof wide_code;
+    area[offset_of(2) + 2] = 0x01;
     not_a_register(area, "57 01");
     free(area);
 }
@@ -511,13 +572,13 @@ static void loans_wrong_order(void) {
     not_a_register(area, "a code twice, one borrower");
     put_place(area, 2, longest_code, sizeof longest_code, 2);
     not_a_register(area, "a code twice, another between");
-    memset(area + 2 * PLACE, 0, PLACE);
+    free_place(area, 2);
     for (size_t place = 3; place < PLACES; place += 63) {
         put_place(area, place, wide_code, sizeof wide_code, 3);
         not_a_register(area, "a used place behind a free one");
-        memset(area + place * PLACE, 0, PLACE);
+        free_place(area, place);
     }
-    memset(area, 0, PLACE);
+    free_place(area, 0);
     not_a_register(area, "the first place free");
     free(area);
 }
@@ -557,18 +618,155 @@ static void loans_from_elsewhere(void) {
     free(area);
 }
 
-/* A question writes nothing, not even the bytes that are there: this register lies where nobody may write. It may also lie
- * over its text: here the body of a code spells another one. */
+/* Counts after each issue and return, by hand: two units, a list of units, a wide composite and an ID. A refused call leaves
+ * them. */
+static void loans_counts_of_types(void) {
+    const uint8_t zeros[6] = {0};
+    uint8_t *area = fresh_register();
+    counted(area, REGISTER, (loans_counted){.number = ISCC_OK}, "nothing out");
+    issue_takes(area, 0, SHORTEST, 1, shortest_code, sizeof shortest_code);
+    counted(area, REGISTER, (loans_counted){.out = 1, .data = 1}, "a unit");
+    issue_takes(area, 1, UNITS, 2, composite_code, sizeof composite_code);
+    counted(area, REGISTER, (loans_counted){.out = 2, .data = 1, .iscc = 1}, "a list");
+    issue_takes(area, 2, WIDE, 3, wide_code, sizeof wide_code);
+    counted(area, REGISTER, (loans_counted){.out = 3, .data = 1, .iscc = 2}, "a wide composite");
+    issue_takes(area, 3, AN_ID, 4, id_code, sizeof id_code);
+    counted(area, REGISTER, (loans_counted){.out = 4, .data = 1, .iscc = 2, .id = 1}, "an ID");
+    issue_takes(area, 0, "AAAAAAAAAA", 5, zeros, sizeof zeros);
+    counted(area, REGISTER, (loans_counted){.out = 5, .meta = 1, .data = 1, .iscc = 2, .id = 1}, "a META unit");
+    issue_refused(area, COMPOSITE, ISCC_ALREADY_OUT);
+    not_out(area, LONGEST);
+    counted(area, REGISTER, (loans_counted){.out = 5, .meta = 1, .data = 1, .iscc = 2, .id = 1}, "two refusals");
+    return_closes(area, 2, COMPOSITE);
+    counted(area, REGISTER, (loans_counted){.out = 4, .meta = 1, .data = 1, .iscc = 1, .id = 1}, "the list is back");
+    return_closes(area, 3, AN_ID);
+    counted(area, REGISTER, (loans_counted){.out = 3, .meta = 1, .data = 1, .iscc = 1}, "the ID is back");
+    return_closes(area, 1, SHORTEST);
+    return_closes(area, 1, SMALL_WIDE);
+    return_closes(area, 0, "AAAAAAAAAA");
+    counted(area, REGISTER, (loans_counted){.number = ISCC_OK}, "all are back");
+    free(area);
+}
+
+/* One code of main type 0 to seven of main type 6: each count stands in its bytes, and is told under its name. */
+static void loans_counts_by_name(void) {
+    const uint8_t heads[] = {0x00, 0x10, 0x20, 0x30, 0x40};
+    const uint8_t due[COUNTS] = {0, 28, 0, 1, 0, 2, 0, 3, 0, 4, 0, 5, 0, 6, 0, 7};
+    uint8_t *area = fresh_register(), code[18] = {0};
+    size_t place = 0;
+    for (uint8_t type = 0; type < 5; type++) {
+        for (uint8_t i = 0; i <= type; i++, place++) {
+            memset(code, 0, sizeof code);
+            code[0] = heads[type];
+            code[5] = i;
+            put_place(area, place, code, 6, 7);
+        }
+    }
+    for (uint8_t i = 0; i < 6; i++, place++) {
+        memcpy(code, composite_code, sizeof code);
+        code[17] = i;
+        put_place(area, place, code, sizeof code, 7);
+    }
+    for (uint8_t i = 0; i < 7; i++, place++) {
+        memcpy(code, id_code, sizeof id_code);
+        code[9] = i;
+        put_place(area, place, code, sizeof id_code, 7);
+    }
+    expect(memcmp(area, due, COUNTS) == 0, "other counts", "one to seven of each main type");
+    counted(area, REGISTER, (loans_counted){ISCC_OK, 28, 1, 2, 3, 4, 5, 6, 7}, "one to seven of each main type");
+    free(area);
+}
+
+/* 255 codes, 256 and 255 again: both bytes of a count change. */
+static void loans_counts_carried(void) {
+    uint8_t *area = fresh_register(), code[10];
+    char text[ISCC_TEXT_AREA + 1];
+    for (size_t i = 0; i < PLACES; i++) {
+        issue_row(area, i, i);
+        counted(area, REGISTER, (loans_counted){.out = (uint32_t)i + 1, .data = (uint32_t)i + 1}, "a row of codes");
+    }
+    code_of_row(77, code, text);
+    return_closes(area, 77, text);
+    counted(area, REGISTER, (loans_counted){.out = 255, .data = 255}, "one is back");
+    issue_takes(area, 255, AN_ID, 1, id_code, sizeof id_code);
+    counted(area, REGISTER, (loans_counted){.out = 256, .data = 255, .id = 1}, "an ID instead");
+    free(area);
+}
+
+/* Places in order, and counts that are not theirs: one too high or too low, its two bytes exchanged, its high byte, two counts
+ * exchanged, a code counted under another main type, all moved by one. */
+static void loans_wrong_counts(void) {
+    for (size_t i = 0; i < COUNTS / 2; i++) {
+        uint8_t *area = two_out(), count;
+        put_place(area, 2, id_code, sizeof id_code, 3);
+        count = area[2 * i + 1];
+        put_count(area, i, count + 1u);
+        not_a_register(area, "a count one too high");
+        put_count(area, i, count - 1u);
+        not_a_register(area, "a count one too low");
+        put_count(area, i, count + 256u);
+        not_a_register(area, "a count 256 too high");
+        put_count(area, i, count + 32768u);
+        not_a_register(area, "the highest bit of a count");
+        put_count(area, i, count * 256u);
+        if (count != 0) not_a_register(area, "the bytes of a count exchanged");
+        put_count(area, i, 0);
+        if (count != 0) not_a_register(area, "a count of zero");
+        for (size_t j = 0; j < i; j++) {
+            count_places(area);
+            uint8_t other = area[2 * j + 1];
+            put_count(area, i, other);
+            put_count(area, j, count);
+            if (count != other) not_a_register(area, "two counts exchanged");
+            put_count(area, i, count + 1u);
+            put_count(area, j, other - 1u);
+            not_a_register(area, "one more here, one less there");
+            put_count(area, j, other + 1u);
+            not_a_register(area, "one more in both");
+        }
+        free(area);
+    }
+    uint8_t *area = two_out();
+    memmove(area + 2, area, COUNTS - 2);
+    not_a_register(area, "the counts one on");
+    memset(area, 0, COUNTS);
+    not_a_register(area, "no counts");
+    free(area);
+    area = fresh_register();
+    put_count(area, 0, 1);
+    not_a_register(area, "nothing out, and one counted");
+    put_count(area, 6, 1);
+    not_a_register(area, "nothing out, and a composite counted");
+    free(area);
+}
+
+/* A register of a version before 0.6: its places alone, with codes out. */
+static void loans_without_counts(void) {
+    uint8_t *area = two_out(), *older = copy_of(area + COUNTS, REGISTER - COUNTS);
+    all_refuse(COMPOSITE, strlen(COMPOSITE), older, REGISTER - COUNTS, ISCC_NOT_REGISTER, "no counts");
+    not_counted(older, REGISTER - COUNTS, "no counts");
+    counted(area, REGISTER, (loans_counted){.out = 2, .iscc = 2}, "with its counts");
+    free(area);
+    free(older);
+}
+
+/* A question writes nothing, not even the bytes that are there, and neither do the counts: this register lies where nobody may
+ * write. It may also lie over the text: here the body of a code spells another one. */
 static void loans_only_read(void) {
     static const uint8_t area[REGISTER] = {
-        6, 0x30, 0x00, 0xff, 0x00, 0x00, 0x01, [44] = 0, 0, 1, 2,
-        [PLACE] = 18, 0x30, 0x03, 'G', 'A', 'A', 'P', '6', 'A', 'A', 'A', 'A', 'E', ' ', ' ', ' ', ' ', ' ', ' ',
+        [1] = 2, [9] = 2,
+        [COUNTS] = 6, 0x30, 0x00, 0xff, 0x00, 0x00, 0x01, [COUNTS + 44] = 0, 0, 1, 2,
+        [COUNTS + PLACE] = 18, 0x30, 0x03, 'G', 'A', 'A', 'P', '6', 'A', 'A', 'A', 'A', 'E', ' ', ' ', ' ', ' ', ' ', ' ',
     };
+    loans_counted counts = loans_counts(area, REGISTER);
+    expect_same("number", counts.number, ISCC_OK, "register that cannot be written");
+    expect_same("out", counts.out, 2, "register that cannot be written");
+    expect_same("data", counts.data, 2, "register that cannot be written");
     loans_holder answer = loans_ask((const uint8_t *)SHORTEST, strlen(SHORTEST), area, REGISTER);
     expect_same("number", answer.number, ISCC_OK, "register that cannot be written");
     expect_same("borrower", answer.borrower, 258, "register that cannot be written");
     expect_same("looks", answer.looks, 2, "register that cannot be written");
-    answer = loans_ask(area + PLACE + 3, 16, area, REGISTER);
+    answer = loans_ask(area + COUNTS + PLACE + 3, 16, area, REGISTER);
     expect_same("number", answer.number, ISCC_OK, "text in the register");
     expect_same("borrower", answer.borrower, 258, "text in the register");
     expect_same("looks", answer.looks, 2, "text in the register");

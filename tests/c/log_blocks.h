@@ -293,6 +293,41 @@ static void log_full(void) {
     free(fresh);
 }
 
+/* Counts after replays, by hand: a unit, a composite, a wide composite and an ID go out and come back; the counts of the codes
+ * that were out stay, and those of a tear or a stop are those of the records before it. */
+static void log_counts(void) {
+    uint8_t log[300], *area = fresh_register();
+    size_t issued, end, stop;
+    put_place(area, 0, longest_code, sizeof longest_code, 9);
+    issued = put_record(log, ISSUE, wide_code, sizeof wide_code, 1);
+    issued += put_record(log + issued, ISSUE, shortest_code, sizeof shortest_code, 2);
+    issued += put_record(log + issued, ISSUE, id_code, sizeof id_code, 3);
+    issued += put_record(log + issued, ISSUE, composite_code, sizeof composite_code, 4);
+    end = issued + put_record(log + issued, RETURN, shortest_code, sizeof shortest_code, 0);
+    end += put_record(log + end, RETURN, wide_code, sizeof wide_code, 0);
+    stop = end + put_record(log + end, RETURN, wide_code, sizeof wide_code, 0);
+    const struct {
+        size_t length;
+        loans_counted due;
+        const char *what;
+    } cuts[] = {
+        {0, {.out = 1, .iscc = 1}, "no records"},
+        {issued, {.out = 5, .data = 1, .iscc = 3, .id = 1}, "four issues"},
+        {issued - 1, {.out = 4, .data = 1, .iscc = 2, .id = 1}, "three issues and a tear"},
+        {end, {.out = 3, .iscc = 2, .id = 1}, "two returns"},
+        {stop - 1, {.out = 3, .iscc = 2, .id = 1}, "two returns and a tear"},
+        {stop, {.out = 3, .iscc = 2, .id = 1}, "two returns and a stop"},
+    };
+    for (size_t i = 0; i < sizeof cuts / sizeof *cuts; i++) {
+        uint8_t *after = copy_of(area, REGISTER);
+        loans_replayed answer = loans_replay(log, cuts[i].length, after, REGISTER);
+        expect_same("number of replay", answer.number, cuts[i].length == stop ? ISCC_NOT_OUT : ISCC_OK, cuts[i].what);
+        counted(after, REGISTER, cuts[i].due, cuts[i].what);
+        free(after);
+    }
+    free(area);
+}
+
 /* 23 comes before anything of the log, and changes nothing. */
 static void log_not_a_register(void) {
     const uint8_t zeros[3] = {0, 0, 0};
@@ -300,15 +335,18 @@ static void log_not_a_register(void) {
         const uint8_t *bytes;
         size_t length;
     } logs[] = {{NULL, 0}, {issue_and_return, 46}, {issue_and_return, 30}, {issue_and_return, 1}, {zeros, 3}};
-    const size_t lengths[] = {0, 1, REGISTER - 1, REGISTER + 1, REGISTER};
-    uint8_t *exchanged = fresh_register(), *hole = fresh_register();
+    const size_t lengths[] = {0, 1, REGISTER - COUNTS, REGISTER - 1, REGISTER + 1, REGISTER};
+    uint8_t *exchanged = fresh_register(), *hole = fresh_register(), *miscounted = fresh_register();
     put_place(exchanged, 0, wide_code, sizeof wide_code, 5);
     put_place(exchanged, 1, shortest_code, sizeof shortest_code, 5);
     put_place(hole, 1, shortest_code, sizeof shortest_code, 5);
+    put_place(miscounted, 0, composite_code, sizeof composite_code, 5);
+    put_count(miscounted, 4, 1); /* what a unit of it would count */
     for (size_t i = 0; i < sizeof logs / sizeof *logs; i++) {
         const loans_replayed due = {ISCC_NOT_REGISTER, LOANS_NOT_BEGUN, 0};
         replay_gives(logs[i].bytes, logs[i].length, exchanged, due, exchanged, "two codes exchanged");
         replay_gives(logs[i].bytes, logs[i].length, hole, due, hole, "the first place free");
+        replay_gives(logs[i].bytes, logs[i].length, miscounted, due, miscounted, "a count one too high");
         for (size_t j = 0; j < sizeof lengths / sizeof *lengths; j++) {
             uint8_t *area = lengths[j] == 0 ? NULL : calloc(1, lengths[j]);
             if (lengths[j] == REGISTER) area[REGISTER - 1] = 1; /* the right length, and damaged */
@@ -320,6 +358,7 @@ static void log_not_a_register(void) {
     }
     free(exchanged);
     free(hole);
+    free(miscounted);
 }
 
 /* A replay writes nothing to the log, not even the bytes that are there: this one lies where nobody may write. */

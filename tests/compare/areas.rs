@@ -1,9 +1,10 @@
 //! Random registers, and areas that are none by one fault.
 
 use crate::random::Random;
-use crate::{codes, records, texts};
+use crate::{codes, counts, records, texts};
+use harness::area::places;
 use harness::call::{Call, Request};
-use reference::register::{place_of, BORROWER, CODE, LENGTH, PLACE, PLACES, ZERO};
+use reference::register::{place_of, BORROWER, CODE, COUNTS, LENGTH, PLACE, PLACES, ZERO};
 
 /// Any borrower; those at the ends of a byte or a sign more often.
 pub fn borrower(random: &mut Random) -> u32 {
@@ -30,15 +31,19 @@ fn register(random: &mut Random) -> Filled {
     register_of(random, used)
 }
 
-/// The same with so many codes out, and a few others in the list.
+/// The same with so many codes out, and a few others in the list; some have codes of one main type alone.
 pub fn register_of(random: &mut Random, used: usize) -> Filled {
-    let mut codes = codes::different(random, used + 4);
+    let mut codes = match random.percent(5) {
+        true => codes::with_one_header(random, used + 4),
+        false => codes::different(random, used + 4),
+    };
     codes[..used].sort();
     let mut area = vec![0; LENGTH];
     for (place, code) in codes[..used].iter().enumerate() {
         let borrower = borrower(random);
         bytes_of(&mut area, place).copy_from_slice(&place_of(code, borrower));
     }
+    counts::put(&mut area);
     Filled { area, codes, used }
 }
 
@@ -60,8 +65,11 @@ fn chosen(random: &mut Random, filled: &Filled) -> Vec<u8> {
 pub fn request(random: &mut Random, call: Call) -> Request {
     let filled = register(random);
     let mut second = filled.area.clone();
-    if random.percent(45) {
+    if random.percent(55) {
         damage(random, &mut second);
+    }
+    if call == Call::Counts {
+        return Request { second, ..Request::new(call) };
     }
     if call == Call::Replay {
         return Request { first: records::log(random, &filled.codes, filled.used), second, ..Request::new(call) };
@@ -72,7 +80,7 @@ pub fn request(random: &mut Random, call: Call) -> Request {
 }
 
 fn bytes_of(area: &mut [u8], place: usize) -> &mut [u8] {
-    &mut area[place * PLACE..(place + 1) * PLACE]
+    &mut area[COUNTS + place * PLACE..][..PLACE]
 }
 
 /// The bytes of a place that are its code by its length.
@@ -82,7 +90,7 @@ pub fn code_in(place: &[u8]) -> &[u8] {
 
 /// One of the places that are used, or of those that are free: the first, the last or any.
 fn choose(random: &mut Random, area: &[u8], used: bool) -> Option<usize> {
-    let places: Vec<usize> = (0..PLACES).filter(|place| (area[place * PLACE] != 0) == used).collect();
+    let places: Vec<usize> = (0..PLACES).filter(|place| (area[COUNTS + place * PLACE] != 0) == used).collect();
     let (first, last) = (*places.first()?, *places.last()?);
     let any = random.pick(&places);
     Some(random.pick(&[first, last, any]))
@@ -110,23 +118,34 @@ fn free_place(random: &mut Random, area: &mut [u8]) -> usize {
     })
 }
 
-/// One fault, of each kind that makes an area no register. A few of them leave a register, only another one.
+/// One fault, of each kind that makes an area no register: of its length, of its counts, or of its places, which are counted
+/// as they then are. A few of them leave a register, only another one.
 pub fn damage(random: &mut Random, area: &mut Vec<u8>) {
-    match random.below(20) {
-        0 => other_length(random, area),
-        1 => {
+    match random.below(40) {
+        0..=2 => other_length(random, area),
+        3..=17 => counts::spoil(random, area),
+        _ => {
+            spoil_places(random, area);
+            counts::put(area);
+        }
+    }
+}
+
+fn spoil_places(random: &mut Random, area: &mut [u8]) {
+    match random.below(19) {
+        0 => {
             let place = any_place(random);
             bytes_of(area, place).copy_from_slice(&random.bytes(PLACE));
         }
-        2 => {
-            let at = random.below(LENGTH);
+        1 => {
+            let at = COUNTS + random.below(LENGTH - COUNTS);
             area[at] ^= 1 << random.below(8);
         }
-        3..=4 => {
+        2..=3 => {
             let place = free_place(random, area);
             spoil_free(random, bytes_of(area, place));
         }
-        5..=10 => {
+        4..=9 => {
             let place = used_place(random, area);
             spoil_used(random, bytes_of(area, place));
             if random.percent(80) {
@@ -139,22 +158,28 @@ pub fn damage(random: &mut Random, area: &mut Vec<u8>) {
 
 /// The used places first, in order by what their lengths say, so that what else is wrong with one is all that is.
 fn put_in_order(area: &mut [u8]) {
-    let mut places: Vec<Vec<u8>> = area.chunks(PLACE).map(<[u8]>::to_vec).collect();
+    let mut places: Vec<Vec<u8>> = places(area).chunks(PLACE).map(<[u8]>::to_vec).collect();
     places.sort_by_cached_key(|place| (place[0] == 0, code_in(place).to_vec()));
-    area.copy_from_slice(&places.concat());
+    area[COUNTS..].copy_from_slice(&places.concat());
 }
 
-/// Cut, or longer by zeros.
+/// Without its counts, cut, or longer by zeros.
 fn other_length(random: &mut Random, area: &mut Vec<u8>) {
     let any = random.below(2 * LENGTH);
     let lengths =
-        [0, 1, PLACE, LENGTH - PLACE, LENGTH - 1, LENGTH + 1, LENGTH + 16, LENGTH + PLACE, 2 * LENGTH, 65_536, any];
-    area.resize(random.pick(&lengths), 0);
+        [0, 1, COUNTS, PLACE, LENGTH - PLACE, LENGTH - COUNTS, LENGTH + COUNTS, LENGTH + PLACE, 2 * LENGTH, 65_536];
+    match random.below(6) {
+        0..=1 => drop(area.drain(..COUNTS)),
+        2 => area.truncate(LENGTH - 1),
+        3 => area.push(0),
+        4 => area.resize(any, 0),
+        _ => area.resize(random.pick(&lengths), 0),
+    }
 }
 
 /// The used places of an area, as they stand.
 fn used_places(area: &[u8]) -> Vec<Vec<u8>> {
-    area.chunks(PLACE).filter(|place| place[0] != 0).map(<[u8]>::to_vec).collect()
+    places(area).chunks(PLACE).filter(|place| place[0] != 0).map(<[u8]>::to_vec).collect()
 }
 
 /// Places that are good one by one: in another order, with a code twice, or with free ones before used ones.
@@ -196,7 +221,7 @@ fn disorder(random: &mut Random, area: &mut [u8]) {
         _ => random.shuffle(&mut places),
     }
     area.fill(0);
-    area[..places.len() * PLACE].copy_from_slice(&places.concat());
+    area[COUNTS..][..places.len() * PLACE].copy_from_slice(&places.concat());
 }
 
 /// Bytes as a careless order might take them.

@@ -26,7 +26,7 @@ pub fn request(random: &mut Random, call: Call) -> Request {
         Call::UnitWrite => (request.header, request.second) = header_and_body(random),
         Call::Join => request.first = to_join(random),
         Call::Split => request.first = composite_bytes(random),
-        Call::Issue | Call::TakeBack | Call::Ask | Call::Replay => return areas::request(random, call),
+        Call::Issue | Call::TakeBack | Call::Ask | Call::Replay | Call::Counts => return areas::request(random, call),
         Call::LogIssue | Call::LogReturn => return records::append(random, call),
     }
     request.area = area(random, &request);

@@ -1,7 +1,7 @@
 //! Random bytes of units, composites and lists: valid, nearly valid, damaged, and nothing of the kind.
 
 use crate::random::Random;
-use std::collections::HashSet;
+use std::collections::{BTreeSet, HashSet};
 
 /// Each main type's count of subtypes and of length numbers.
 const SINGLE: [(u8, u8, u8); 6] = [(0, 1, 8), (1, 5, 8), (2, 5, 8), (3, 1, 8), (4, 1, 8), (6, 6, 5)];
@@ -253,5 +253,17 @@ pub fn different(random: &mut Random, count: usize) -> Vec<Vec<u8>> {
             codes.push(code);
         }
     }
+    codes
+}
+
+/// So many codes with one header, no two alike.
+pub fn with_one_header(random: &mut Random, count: usize) -> Vec<Vec<u8>> {
+    let code = if random.percent(30) { composite(random) } else { unit(random) };
+    let mut known = BTreeSet::new();
+    while known.len() < count {
+        known.insert([&code[..2], &random.bytes(code.len() - 2)].concat());
+    }
+    let mut codes: Vec<Vec<u8>> = known.into_iter().collect();
+    random.shuffle(&mut codes);
     codes
 }

@@ -1,14 +1,16 @@
 //! What makes an area no register: cases in which one of these is hardly all that is wrong would test nothing of it.
 
 use crate::areas::{code_in, signed};
-use harness::call::{Request, Response};
+use crate::counts;
+use harness::area::{numbers, places};
+use harness::call::{Request, Response, Values};
 use reference::refusal::NOT_REGISTER;
-use reference::register::{CODE, LENGTH, PLACE, ZERO};
+use reference::register::{CODE, COUNTS, LENGTH, PLACE, ZERO};
 use reference::unit;
 use std::collections::HashSet;
 
 /// The kinds, in the order of their counts.
-pub const KINDS: [&str; 16] = [
+pub const KINDS: [&str; 42] = [
     "another length",
     "length above 42",
     "no code",
@@ -25,6 +27,32 @@ pub const KINDS: [&str; 16] = [
     "ordered by signed bytes",
     "falling order",
     "no order",
+    "places without counts",
+    "a byte short",
+    "a byte too long",
+    "out too high",
+    "meta too high",
+    "semantic too high",
+    "content too high",
+    "data too high",
+    "instance too high",
+    "iscc too high",
+    "id too high",
+    "out too low",
+    "meta too low",
+    "semantic too low",
+    "content too low",
+    "data too low",
+    "instance too low",
+    "iscc too low",
+    "id too low",
+    "bytes of a count exchanged",
+    "two counts exchanged",
+    "counts of zeros",
+    "code under another main type",
+    "code too many",
+    "code too few",
+    "other counts",
 ];
 const OTHER_LENGTH: usize = 0;
 const LONG: usize = 1;
@@ -42,6 +70,19 @@ const BY_LENGTH: usize = 12;
 const BY_SIGNED: usize = 13;
 const FALLING: usize = 14;
 const NO_ORDER: usize = 15;
+const NO_COUNTS: usize = 16;
+const BYTE_SHORT: usize = 17;
+const BYTE_MORE: usize = 18;
+/// The first of eight kinds, one for each number, and so the next.
+const HIGH: usize = 19;
+const LOW: usize = 27;
+const BYTES: usize = 35;
+const TWO_COUNTS: usize = 36;
+const ZEROS: usize = 37;
+const ELSEWHERE: usize = 38;
+const TOO_MANY: usize = 39;
+const TOO_FEW: usize = 40;
+const OTHER_COUNTS: usize = 41;
 
 /// Whether a case has each kind.
 pub type Found = [bool; KINDS.len()];
@@ -119,23 +160,76 @@ fn of_order(places: &[&[u8]]) -> Vec<usize> {
     }
 }
 
+/// What is wrong with the one number that is not as it is due.
+fn of_number(at: usize, found: u64, due: u64) -> usize {
+    match found {
+        _ if found == due + 1 => HIGH + at,
+        _ if found + 1 == due => LOW + at,
+        _ if found == u64::from((due as u16).swap_bytes()) => BYTES,
+        _ => OTHER_COUNTS,
+    }
+}
+
+/// What is wrong with the counts.
+fn of_counts(found: Values, due: Values) -> Vec<usize> {
+    let wrong: Vec<usize> = (0..due.len()).filter(|&at| found[at] != due[at]).collect();
+    let all_by = |step: u64, more: &Values, less: &Values| wrong.iter().all(|&at| more[at] == less[at] + step);
+    let kind = match wrong[..] {
+        [] => return Vec::new(),
+        _ if found == Values::default() => ZEROS,
+        [at] => of_number(at, found[at], due[at]),
+        [0, _] if all_by(1, &found, &due) => TOO_MANY,
+        [0, _] if all_by(1, &due, &found) => TOO_FEW,
+        [one, other] if one > 0 && (found[one], found[other]) == (due[other], due[one]) => TWO_COUNTS,
+        [one, other] if one > 0 && found[one] + found[other] == due[one] + due[other] => ELSEWHERE,
+        _ => OTHER_COUNTS,
+    };
+    vec![kind]
+}
+
+/// What is wrong with the places one by one, with their order, and with the counts.
+fn of_parts(area: &[u8]) -> [Vec<usize>; 3] {
+    let places: Vec<&[u8]> = places(area).chunks(PLACE).collect();
+    let of_places = places.iter().flat_map(|place| of_place(place)).collect();
+    [of_places, of_order(&places), of_counts(numbers(area), counts::of_area(area).map(u64::from))]
+}
+
+/// What is wrong with an area of another length: the length by a byte or the counts, where with them it is a register with
+/// codes out.
+fn of_length(area: &[u8]) -> Vec<usize> {
+    let (kind, mended) = match area.len() {
+        length if length + COUNTS == LENGTH => {
+            let mut mended = [&[0; COUNTS], area].concat();
+            counts::put(&mut mended);
+            (NO_COUNTS, mended)
+        }
+        length if length + 1 == LENGTH => (BYTE_SHORT, [area, &[0]].concat()),
+        length if length == LENGTH + 1 => (BYTE_MORE, area[..LENGTH].to_vec()),
+        _ => return vec![OTHER_LENGTH],
+    };
+    if mended[COUNTS] != 0 && of_parts(&mended).concat().is_empty() {
+        vec![OTHER_LENGTH, kind]
+    } else {
+        vec![OTHER_LENGTH]
+    }
+}
+
 /// What is wrong with an area; nothing where more than one thing is.
 fn of_area(area: &[u8]) -> Vec<usize> {
     if area.len() != LENGTH {
-        return vec![OTHER_LENGTH];
+        return of_length(area);
     }
-    let places: Vec<&[u8]> = area.chunks(PLACE).collect();
-    let of_places: Vec<usize> = places.iter().flat_map(|place| of_place(place)).collect();
-    let of_order = of_order(&places);
-    match (&of_places[..], &of_order[..]) {
-        ([], _) => of_order,
-        ([_], []) => of_places,
+    let [of_places, of_order, of_counts] = of_parts(area);
+    match (&of_places[..], &of_order[..], &of_counts[..]) {
+        ([], _, []) => of_order,
+        ([_], [], []) => of_places,
+        ([], [], _) => of_counts,
         _ => Vec::new(),
     }
 }
 
 pub fn found(request: &Request, due: &Response) -> Found {
-    let mut found = Found::default();
+    let mut found = [false; KINDS.len()];
     if due.number == NOT_REGISTER {
         of_area(&request.second).into_iter().for_each(|kind| found[kind] = true);
     }

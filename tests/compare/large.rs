@@ -16,7 +16,7 @@ fn list(random: &mut Random, last: Vec<u8>) -> Vec<u8> {
 }
 
 /// How many requests there are.
-pub const COUNT: u64 = 35;
+pub const COUNT: u64 = 36;
 
 pub fn requests(random: &mut Random) -> Vec<Request> {
     let mut requests = Vec::new();
@@ -46,6 +46,7 @@ pub fn requests(random: &mut Random) -> Vec<Request> {
         requests.push(on_register(call, vec![b'-'; MEBIBYTE], register::LENGTH));
         requests.push(on_register(call, typed.clone(), MEBIBYTE));
     }
+    requests.push(on_register(Call::Counts, Vec::new(), MEBIBYTE));
     requests.extend(on_log(random));
     requests
 }

@@ -6,7 +6,7 @@ use crate::random::Random;
 use crate::records::{self, Change};
 use crate::seen::Seen;
 use crate::{codes, texts, wide, MOST_DIFFERENCES};
-use harness::call::{Call, Request, Response};
+use harness::call::{values, Call, Request, Response};
 use harness::expected;
 use harness::library::{Case, Library};
 use harness::tally::Tally;
@@ -57,7 +57,7 @@ impl Known {
         } else {
             (0, End::Ran, 0)
         };
-        let values = [end as u64, offset as u64, 0, 0, 0];
+        let values = values([end as u64, offset as u64]);
         Response { number, values, written: self.registers[applied].clone() }
     }
 }

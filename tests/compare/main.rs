@@ -3,6 +3,8 @@
 mod areas;
 mod cases;
 mod codes;
+mod counts;
+mod days;
 mod faults;
 mod large;
 mod lines;
@@ -30,7 +32,7 @@ const USAGE: &str = "usage: compare [--seed N] [--cases N] [--lines PROGRAM] [--
   --seed N          the seed of the cases (24138)
   --cases N         how many cases in all (1000000); those on a register or a log come on top
   --lines PROGRAM   the line program; without it no lines are compared
-  --only CALL CASE  one case of one call, or of large, register, log or lines, counted from 0
+  --only CALL CASE  one case of one call, or of large, register, days, log or lines, counted from 0
   --memcheck        areas are heap blocks of just their length, for a run by tests/memcheck";
 
 /// A call with so many differences is left there.
@@ -48,8 +50,8 @@ fn share(call: Call) -> usize {
         Call::Distance | Call::HeaderRead => 5,
         Call::HeaderWrite | Call::Base32Read => 4,
         Call::Base32Write => 2,
-        Call::Issue | Call::TakeBack | Call::Ask => 2,
-        Call::LogIssue | Call::LogReturn | Call::Replay => 2,
+        Call::Issue | Call::TakeBack | Call::Ask | Call::Replay | Call::Counts => 3,
+        Call::LogIssue | Call::LogReturn => 2,
     }
 }
 
@@ -106,10 +108,10 @@ fn fault(options: &Options) -> Option<String> {
         "lines" if case >= lines::INPUTS => Some(format!("there are {} inputs of lines, counted from 0", lines::INPUTS)),
         "large" if case >= large::COUNT => Some(format!("there are {} large inputs, counted from 0", large::COUNT)),
         "lines" | "large" => None,
-        "register" | "log" if case < u64::MAX => None,
+        "register" | "log" | "days" if case < u64::MAX => None,
         _ if case == u64::MAX => Some("--only wants a smaller number".to_string()),
         _ if Call::ALL.iter().any(|call| call.name() == name) => None,
-        _ => Some(format!("no call is called '{name}'; calls: {calls}, and large, register, log, lines")),
+        _ => Some(format!("no call is called '{name}'; calls: {calls}, and large, register, days, log, lines")),
     }
 }
 
@@ -132,6 +134,9 @@ fn main() -> ExitCode {
     }
     if let Some(range) = range(&options, "log", log::count(options.cases, options.memcheck)) {
         log::check(&mut tally, &mut library, options.seed, range);
+    }
+    if let Some(range) = range(&options, "days", days::count(options.cases, options.memcheck)) {
+        days::check(&mut tally, &mut library, options.seed, range);
     }
     match (range(&options, "lines", lines::INPUTS), &options.lines) {
         (Some(range), Some(program)) => lines::check(&mut tally, program, options.seed, range, &options.again),

@@ -1,6 +1,7 @@
 //! Sequences of calls on one register, from the empty one on: after each the answer and the whole area are those of the
-//! reference, and the answer is that of a plain map.
+//! reference, and the answer and the counts are those of a plain map.
 
+use crate::counts::{self, Outs};
 use crate::random::Random;
 use crate::seen::Seen;
 use crate::{areas, codes, texts, wide, MOST_DIFFERENCES};
@@ -33,7 +34,8 @@ struct Plan {
     calls: Vec<Call>,
 }
 
-/// A few codes again and again; in every tenth sequence more than a register holds, issued one after the other first.
+/// A few codes again and again; in every tenth sequence more than a register holds, issued one after the other first, in every
+/// twentieth of one main type.
 fn plan(random: &mut Random, number: u64) -> Plan {
     let fills = number % 10 == 0;
     let count = if fills { PLACES + 1 + random.below(8) } else { random.pick(&[1, 2, 4, 8, 20, 60]) };
@@ -42,7 +44,8 @@ fn plan(random: &mut Random, number: u64) -> Plan {
         let often = random.pick(&Call::REGISTER);
         calls.extend((0..20).map(|_| if random.percent(50) { often } else { random.pick(&Call::REGISTER) }));
     }
-    Plan { codes: codes::different(random, count), calls }
+    let codes = if number % 20 == 0 { codes::with_one_header(random, count) } else { codes::different(random, count) };
+    Plan { codes, calls }
 }
 
 /// The register as a plain map.
@@ -66,8 +69,20 @@ fn agrees(map: Result<u32, u32>, due: &Response) -> bool {
     due.number == number && due.values[0] == u64::from(borrower)
 }
 
+/// What the question for the counts answers: the numbers of the map.
+fn counts_of(map: &Map) -> Response {
+    Response::told(0, counts::of_codes(map.keys().map(Vec::as_slice)).map(u64::from))
+}
+
+/// What came out over some sequences: for each call, and of the counts.
+#[derive(Default)]
+struct Came {
+    seen: [Seen; 3],
+    outs: Outs,
+}
+
 /// Runs one sequence up to its first difference.
-fn run(library: &mut Library, seed: u64, case: &Case, seen: &mut [Seen; 3]) -> Result<(), String> {
+fn run(library: &mut Library, seed: u64, case: &Case, came: &mut Came) -> Result<(), String> {
     let mut random = Random::of_case(seed, u64::MAX - 2, case.number);
     let Plan { codes, calls } = plan(&mut random, case.number);
     let (mut area, mut map) = (vec![0; LENGTH], Map::new());
@@ -88,42 +103,52 @@ fn run(library: &mut Library, seed: u64, case: &Case, seen: &mut [Seen; 3]) -> R
             return Err(format!(" call {index}:{difference}"));
         }
         let which = Call::REGISTER.iter().position(|&one| one == call).expect("a call on a register");
-        seen[which].count(&request, &due);
-        area = if call.changes() { due.written } else { request.second };
+        came.seen[which].count(&request, &due);
+        area = if call.changes() { due.written } else { request.second.clone() };
+        came.outs.count(&request.second, &area);
+        let question = Request { second: area.clone(), ..Request::new(Call::Counts) };
+        if let Some(difference) = library.differs(case, &question, &counts_of(&map), &crate::setting(&mut random)) {
+            return Err(format!(" counts behind call {index}:{difference}"));
+        }
     }
     Ok(())
 }
 
-/// The numbers and the kinds of wide composites that hardly came out, a line for each call.
-fn hardly(seen: &[Seen; 3], kinds: &[usize]) -> String {
-    let few = |(call, seen): (Call, &Seen)| (call.name(), seen.few(call, own_numbers(call), kinds));
-    let few = Call::REGISTER.into_iter().zip(seen).map(few).filter(|(_, few)| !few.is_empty());
-    few.map(|(name, few)| format!("\n {name} hardly brings out {}", few.join(", "))).collect()
-}
+impl Came {
+    /// The numbers, the kinds of wide composites and the counts that hardly came out, a line for each call.
+    fn hardly(&self, sequences: u64) -> String {
+        let kinds = wide::in_sequences(sequences);
+        let few = |(call, seen): (Call, &Seen)| (call.name(), seen.few(call, own_numbers(call), kinds));
+        let few = Call::REGISTER.into_iter().zip(&self.seen).map(few);
+        let lines = few.chain([(Call::Counts.name(), self.outs.missing(sequences))]).filter(|(_, few)| !few.is_empty());
+        lines.map(|(name, few)| format!("\n {name} hardly brings out {}", few.join(", "))).collect()
+    }
 
-/// What came out, a line for each call.
-fn counts(seen: &[Seen; 3]) -> String {
-    let shown =
-        |(call, seen): (Call, &Seen)| format!("\n {} {} times; by number {}", call.name(), seen.all(), seen.shown(call));
-    Call::REGISTER.into_iter().zip(seen).map(shown).collect()
+    /// What came out, a line for each call.
+    fn shown(&self) -> String {
+        let shown =
+            |(call, seen): (Call, &Seen)| format!("\n {} {} times; by number {}", call.name(), seen.all(), seen.shown(call));
+        let calls: String = Call::REGISTER.into_iter().zip(&self.seen).map(shown).collect();
+        format!("{calls}\n counts behind each; {}", self.outs.shown())
+    }
 }
 
 /// Compares the sequences of a range; each that differs is told, with the command that runs it again.
 pub fn check(tally: &mut Tally, library: &mut Library, seed: u64, range: Range<u64>) {
-    let (mut seen, mut differences, mut sequences) = (Default::default(), Vec::new(), 0);
+    let (mut came, mut differences, mut sequences) = (Came::default(), Vec::new(), 0);
     let is_one = range.end - range.start == 1;
     for number in range {
         sequences += 1;
-        let found = run(library, seed, &Case { of: "register", number }, &mut seen);
+        let found = run(library, seed, &Case { of: "register", number }, &mut came);
         differences.extend(found.err().map(|difference| format!("\n case {number},{difference}")));
         if differences.len() == MOST_DIFFERENCES {
             differences.push("\n and the others were not run".to_string());
             break;
         }
     }
-    let hardly = if is_one { String::new() } else { hardly(&seen, wide::in_sequences(sequences)) };
+    let hardly = if is_one { String::new() } else { came.hardly(sequences) };
     let detail = match (differences.is_empty(), hardly.is_empty()) {
-        (true, true) => format!("{sequences} sequences, no difference{}", counts(&seen)),
+        (true, true) => format!("{sequences} sequences, no difference{}", came.shown()),
         (true, false) => format!("{sequences} sequences{hardly}"),
         (false, _) => format!("{sequences} sequences run{}", differences.concat()),
     };

@@ -12,7 +12,7 @@ const ENDS: [&str; 4] = ["not begun", "ran", "torn", "stopped"];
 const MOST_LOOKS: usize = 9;
 
 /// From so many cases on, looks and faults have to come out: there are too many of them for fewer.
-const MANY: usize = 2000;
+const MANY: usize = 3000;
 
 #[derive(Default)]
 pub struct Seen {
@@ -22,7 +22,16 @@ pub struct Seen {
     found: [usize; MOST_LOOKS + 1],
     not_found: [usize; MOST_LOOKS + 1],
     wide: [usize; wide::KINDS.len()],
-    faults: [usize; faults::KINDS.len()],
+    faults: Faults,
+}
+
+/// How often areas had each fault.
+struct Faults([usize; faults::KINDS.len()]);
+
+impl Default for Faults {
+    fn default() -> Faults {
+        Faults([0; faults::KINDS.len()])
+    }
 }
 
 impl Seen {
@@ -39,7 +48,7 @@ impl Seen {
         for (count, found) in self.wide.iter_mut().zip(wide::found(request, due)) {
             *count += usize::from(found);
         }
-        for (count, found) in self.faults.iter_mut().zip(faults::found(request, due)) {
+        for (count, found) in self.faults.0.iter_mut().zip(faults::found(request, due)) {
             *count += usize::from(found);
         }
     }
@@ -74,7 +83,7 @@ impl Seen {
         };
         // What is found takes a look.
         let looks = by_looks("found", self.found).skip(1).chain(by_looks("not found", self.not_found));
-        let faults = faults::KINDS.iter().zip(self.faults).map(|(kind, count)| (kind.to_string(), count));
+        let faults = faults::KINDS.iter().zip(self.faults.0).map(|(kind, count)| (kind.to_string(), count));
         let of_area = call.reads().1 == Some("area");
         looks.filter(|_| call == Call::Ask).chain(faults.filter(|_| of_area)).collect()
     }

@@ -1,6 +1,7 @@
 //! What a case has of wide composites: cases that hardly bring one of these kinds out would test nothing of it.
 
 use crate::{areas, records};
+use harness::area::places;
 use harness::call::{Call, Request, Response};
 use reference::log::{End, HEAD, ISSUE};
 use reference::refusal::{ALL_OUT, ALREADY_OUT, NOT_OUT, NOT_RECORD, NOT_REGISTER};
@@ -44,6 +45,7 @@ pub fn kinds(call: Call) -> &'static [usize] {
         Call::Intake | Call::Strict | Call::Code | Call::Join => &[ALONE, FOLLOWED, CUT, OTHER_LENGTH, UNITS],
         Call::Issue | Call::TakeBack | Call::Ask => &[ALONE, FOLLOWED, CUT, OTHER_LENGTH, UNITS, IN_PLACE, SPOILT_IN_PLACE],
         Call::Replay => &[ALONE, FOLLOWED, CUT, OTHER_LENGTH, IN_PLACE, SPOILT_IN_PLACE],
+        Call::Counts => &[IN_PLACE, SPOILT_IN_PLACE],
         _ => &[ALONE, FOLLOWED, CUT, OTHER_LENGTH],
     }
 }
@@ -113,8 +115,8 @@ fn in_places(request: &Request, due: &Response) -> Vec<Option<usize>> {
         FOLLOWED | CUT | OTHER_LENGTH if due.number == NOT_REGISTER => Some(SPOILT_IN_PLACE),
         _ => None,
     };
-    match request.call {
-        Call::Issue | Call::TakeBack | Call::Ask | Call::Replay => request.second.chunks_exact(PLACE).map(kind_in).collect(),
+    match request.call.reads().1 {
+        Some("area") => places(&request.second).chunks_exact(PLACE).map(kind_in).collect(),
         _ => Vec::new(),
     }
 }

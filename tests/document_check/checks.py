@@ -142,6 +142,7 @@ PROMISES = {
     "crates/iscc/specs/WideComposites.antt": (r"\w+\.", 22),
     "crates/loans/specs/Promises.antt": (r"\w+\.", 27),
     "crates/loans/specs/OrderPromises.antt": (r"\w+\.", 26),
+    "crates/loans/specs/CountPromises.antt": (r"\w+\.", 9),
     "crates/loans/specs/Good.antt": (r"Sound\.", 4),
     "crates/loans/specs/LogPromises.antt": (r"\w+\.", 16),
     "crates/loans/specs/Tears.antt": (r"(Tears|TornOff)\.", 6),

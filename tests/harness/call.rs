@@ -24,10 +24,11 @@ pub enum Call {
     LogIssue,
     LogReturn,
     Replay,
+    Counts,
 }
 
 impl Call {
-    pub const ALL: [Call; 19] = [
+    pub const ALL: [Call; 20] = [
         Call::Intake,
         Call::Strict,
         Call::Code,
@@ -47,9 +48,10 @@ impl Call {
         Call::LogIssue,
         Call::LogReturn,
         Call::Replay,
+        Call::Counts,
     ];
 
-    /// The calls on the loans register.
+    /// The calls on the loans register with a typed text.
     pub const REGISTER: [Call; 3] = [Call::Issue, Call::TakeBack, Call::Ask];
 
     /// The calls on the pending issues log.
@@ -76,6 +78,7 @@ impl Call {
             Call::LogIssue => "log_issue",
             Call::LogReturn => "log_return",
             Call::Replay => "replay",
+            Call::Counts => "counts",
         }
     }
 
@@ -91,12 +94,14 @@ impl Call {
             Call::Issue | Call::TakeBack | Call::Ask => (Some("text"), Some("area")),
             Call::LogIssue | Call::LogReturn => (Some("code"), Some("log")),
             Call::Replay => (Some("log"), Some("area")),
+            Call::Counts => (None, Some("area")),
         }
     }
 
     /// Whether the call writes to the start of an output area.
     pub fn writes(self) -> bool {
-        let only_reads = matches!(self, Call::Strict | Call::Distance | Call::HeaderRead | Call::UnitRead | Call::Ask);
+        let reads_bytes = matches!(self, Call::Strict | Call::Distance | Call::HeaderRead | Call::UnitRead);
+        let only_reads = reads_bytes || matches!(self, Call::Ask | Call::Counts);
         !only_reads && !self.changes() && !self.appends()
     }
 
@@ -115,9 +120,9 @@ impl Call {
         matches!(self, Call::Issue | Call::LogIssue)
     }
 
-    /// Whether the call stands in sequences.
+    /// Whether the call belongs to the register or the log, whose vectors are sequences.
     pub fn in_sequences(self) -> bool {
-        Call::REGISTER.contains(&self) || Call::LOG.contains(&self)
+        Call::REGISTER.contains(&self) || Call::LOG.contains(&self) || self == Call::Counts
     }
 
     /// Every number that the specification lets the call answer, success first.
@@ -140,6 +145,7 @@ impl Call {
             Call::TakeBack | Call::Ask => &[0, 1, 2, 3, 4, 5, 6, 7, 8, 9, 10, 11, 12, 13, 14, 22, 23],
             Call::LogIssue | Call::LogReturn => &[0, 15, 24],
             Call::Replay => &[0, 20, 21, 22, 23, 24],
+            Call::Counts => &[0, 23],
         }
     }
 }
@@ -206,15 +212,28 @@ impl fmt::Display for Request {
     }
 }
 
+/// The numbers of codes out by name: in all, then for main types 0 to 6.
+pub const COUNTED: [&str; 8] = ["out", "meta", "semantic", "content", "data", "instance", "iscc", "id"];
+
 /// Values by their names, in their order.
 pub type Fields = Vec<(&'static str, String)>;
+
+/// Numbers of an answer.
+pub type Values = [u64; 8];
+
+/// The values of a call that has fewer: the others are 0.
+pub fn values<const OWN: usize>(own: [u64; OWN]) -> Values {
+    let mut all = Values::default();
+    all[..OWN].copy_from_slice(&own);
+    all
+}
 
 /// The number, the other numbers of the answer in the order of their C struct (a float by its bits), and the written bytes:
 /// of a register or a log all its bytes, changed or not.
 #[derive(Clone, Debug, Default, PartialEq, Eq)]
 pub struct Response {
     pub number: u32,
-    pub values: [u64; 5],
+    pub values: Values,
     pub written: Vec<u8>,
 }
 
@@ -224,7 +243,12 @@ impl Response {
     }
 
     pub fn written(bytes: Vec<u8>) -> Response {
-        Response { values: [bytes.len() as u64, 0, 0, 0, 0], written: bytes, ..Response::default() }
+        Response { values: values([bytes.len() as u64]), written: bytes, ..Response::default() }
+    }
+
+    /// The answer of a call that only tells numbers.
+    pub fn told<const OWN: usize>(number: u32, own: [u64; OWN]) -> Response {
+        Response { number, values: values(own), written: Vec::new() }
     }
 
     /// The call's answer by name, as the vectors have it; the number comes first.
@@ -233,6 +257,7 @@ impl Response {
             Call::Strict | Call::Issue | Call::TakeBack => &[],
             Call::Ask => &["borrower", "looks"],
             Call::Replay => &["end", "offset"],
+            Call::Counts => &COUNTED,
             Call::Distance => &["d", "n", "ratio"],
             Call::HeaderRead | Call::UnitRead => &["main_type", "subtype", "version", "length", "used"],
             _ => &["length"],

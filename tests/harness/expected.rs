@@ -1,9 +1,9 @@
 //! The reference's answer to a request.
 
-use crate::call::{Call, Request, Response};
+use crate::call::{values, Call, Request, Response};
 use reference::header::Header;
 use reference::log::Replayed;
-use reference::register::Held;
+use reference::register::{Counts, Held};
 use reference::{base32, composite, distance, doors, header, log, register, unit, Answer};
 
 fn written(answer: Answer<Vec<u8>>) -> Response {
@@ -15,7 +15,7 @@ fn read(answer: Answer<(Header, usize)>) -> Response {
         Err(number) => Response::refused(number),
         Ok((header, used)) => {
             let [main_type, subtype, version, length] = header.map(u64::from);
-            Response { values: [main_type, subtype, version, length, used as u64], ..Response::default() }
+            Response::told(0, [main_type, subtype, version, length, used as u64])
         }
     }
 }
@@ -23,10 +23,7 @@ fn read(answer: Answer<(Header, usize)>) -> Response {
 fn measured(answer: Answer<distance::Distance>) -> Response {
     match answer {
         Err(number) => Response::refused(number),
-        Ok(found) => {
-            let values = [found.d as u64, found.n as u64, found.ratio.to_bits() as u64, 0, 0];
-            Response { values, ..Response::default() }
-        }
+        Ok(found) => Response::told(0, [found.d as u64, found.n as u64, found.ratio.to_bits() as u64]),
     }
 }
 
@@ -46,17 +43,20 @@ fn appended(answer: Answer<Vec<u8>>, before: &[u8], position: usize) -> Response
         record.len()
     });
     let (number, length) = answer.map_or_else(|number| (number, 0), |length| (0, length as u64));
-    Response { number, values: [length, 0, 0, 0, 0], written: log }
+    Response { number, values: values([length]), written: log }
 }
 
 fn replayed(answer: Replayed) -> Response {
-    let values = [answer.end as u64, answer.offset as u64, 0, 0, 0];
+    let values = values([answer.end as u64, answer.offset as u64]);
     Response { number: answer.number, values, written: answer.area }
 }
 
 fn held(answer: Held) -> Response {
-    let values = [u64::from(answer.borrower), u64::from(answer.looks), 0, 0, 0];
-    Response { number: answer.number, values, written: Vec::new() }
+    Response::told(answer.number, [u64::from(answer.borrower), u64::from(answer.looks)])
+}
+
+fn counted(answer: Answer<Counts>) -> Response {
+    answer.map_or_else(Response::refused, |counts| Response::told(0, counts.map(u64::from)))
 }
 
 pub fn answer(request: &Request) -> Response {
@@ -81,5 +81,6 @@ pub fn answer(request: &Request) -> Response {
         Call::LogIssue => appended(log::issue(first, *borrower, second.len(), *position), second, *position),
         Call::LogReturn => appended(log::take_back(first, second.len(), *position), second, *position),
         Call::Replay => replayed(log::replay(first, second)),
+        Call::Counts => counted(register::counts(second)),
     }
 }

@@ -42,6 +42,19 @@ struct Holder {
 }
 
 #[repr(C)]
+struct Counted {
+    number: u32,
+    out: u32,
+    meta: u32,
+    semantic: u32,
+    content: u32,
+    data: u32,
+    instance: u32,
+    iscc: u32,
+    id: u32,
+}
+
+#[repr(C)]
 struct ReplayAnswer {
     number: u32,
     end: u32,
@@ -62,6 +75,7 @@ extern "C" {
     fn loans_issue(text: *const u8, text_len: usize, borrower: u32, area: *mut u8, area_len: usize) -> u32;
     fn loans_return(text: *const u8, text_len: usize, area: *mut u8, area_len: usize) -> u32;
     fn loans_ask(text: *const u8, text_len: usize, area: *const u8, area_len: usize) -> Holder;
+    fn loans_counts(area: *const u8, area_len: usize) -> Counted;
     fn loans_log_issue(
         log: *mut u8,
         log_len: usize,
@@ -194,9 +208,9 @@ impl Library {
         }
         let found = answer.response.fields(request.call);
         let (after, written) = (&due.written, &answer.response.written);
-        let place = || area::place_difference(after, written).filter(|_| request.call.changes());
+        let part = || area::part_difference(after, written).filter(|_| request.call.changes());
         let byte = || area::byte_difference(after, written).filter(|_| request.call.appends());
-        let fault = answer.fault.or_else(place).or_else(byte);
+        let fault = answer.fault.or_else(part).or_else(byte);
         Some(self.difference(case, request, (due.fields(request.call), found), fault))
     }
 
@@ -302,31 +316,33 @@ unsafe fn enter(request: &Request, first: *const u8, second: *const u8, out: *mu
         Call::LogIssue => written(loans_log_issue(out, second_len, request.position, first, first_len, request.borrower)),
         Call::LogReturn => written(loans_log_return(out, second_len, request.position, first, first_len)),
         Call::Replay => replayed(loans_replay(first, first_len, out, second_len)),
+        Call::Counts => counted(loans_counts(second, second_len)),
     }
 }
 
 fn written(answer: Written) -> Response {
-    Response { number: answer.number, values: [answer.length as u64, 0, 0, 0, 0], written: Vec::new() }
+    Response::told(answer.number, [answer.length as u64])
 }
 
 fn header(answer: HeaderAnswer) -> Response {
     let [main_type, subtype, version, length] =
         [answer.main_type, answer.subtype, answer.version, answer.length].map(u64::from);
-    let values = [main_type, subtype, version, length, answer.used as u64];
-    Response { number: answer.number, values, written: Vec::new() }
+    Response::told(answer.number, [main_type, subtype, version, length, answer.used as u64])
 }
 
 fn held(answer: Holder) -> Response {
-    let values = [u64::from(answer.borrower), u64::from(answer.looks), 0, 0, 0];
-    Response { number: answer.number, values, written: Vec::new() }
+    Response::told(answer.number, [answer.borrower, answer.looks].map(u64::from))
 }
 
 fn replayed(answer: ReplayAnswer) -> Response {
-    let values = [u64::from(answer.end), answer.offset as u64, 0, 0, 0];
-    Response { number: answer.number, values, written: Vec::new() }
+    Response::told(answer.number, [u64::from(answer.end), answer.offset as u64])
+}
+
+fn counted(answer: Counted) -> Response {
+    let Counted { number, out, meta, semantic, content, data, instance, iscc, id } = answer;
+    Response::told(number, [out, meta, semantic, content, data, instance, iscc, id].map(u64::from))
 }
 
 fn measured(answer: DistanceAnswer) -> Response {
-    let values = [answer.d as u64, answer.n as u64, answer.ratio.to_bits() as u64, 0, 0];
-    Response { number: answer.number, values, written: Vec::new() }
+    Response::told(answer.number, [answer.d as u64, answer.n as u64, answer.ratio.to_bits() as u64])
 }

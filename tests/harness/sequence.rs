@@ -1,8 +1,10 @@
 //! The vectors' sequences: steps on one register and one log in their order, with the answers that are due.
 
+use crate::area;
 use crate::call::{Call, Fields, Request, Response};
 use crate::table::Columns;
 use reference::log::End;
+use reference::register::LENGTH;
 
 /// The files of the sequences.
 pub const REGISTER: &str = "register.txt";
@@ -10,8 +12,6 @@ pub const LOG: &str = "log.txt";
 pub const REPLAY: &str = "replay.txt";
 pub const FILES: [&str; 3] = [REGISTER, LOG, REPLAY];
 
-/// The bytes of a register.
-const LENGTH: usize = 12_288;
 /// What a log's area holds before anything is written.
 const UNWRITTEN: u8 = 0xee;
 
@@ -84,8 +84,20 @@ impl Asked {
             fields.extend([("outcome", outcome(response)), ("place", response.values[1].to_string())]);
         }
         fields.push(("told", "0".to_string()));
+        fields.push(("places", area::hash(area::places(&response.written))));
         let value = |name| fields.iter().find(|field| field.0 == name).expect("a column of the answer").1.clone();
         self.due.iter().map(|&(name, _)| (name, value(name))).collect()
+    }
+
+    /// What the question for the counts has to answer on the area that the call left: 23 where the call did, and else the
+    /// numbers that stand there. Other refusals do not tell which it is.
+    pub fn counts(&self, area: &[u8]) -> Option<Response> {
+        match self.due[0].1.as_str() {
+            _ if self.call().reads().1 != Some("area") => None,
+            "23" => Some(Response::refused(23)),
+            "0" | "20" | "21" | "22" | "24" => Some(Response::told(0, area::numbers(area))),
+            _ => None,
+        }
     }
 
     /// Takes over the register or the log as the call has to leave it.
@@ -133,8 +145,8 @@ pub fn prepared(step: &Step, held: &mut Held) -> Result<(), String> {
     Ok(())
 }
 
-/// A line; an error tells what cannot be read.
-pub fn parse(line: &str) -> Result<Step, String> {
+/// A line of a file; an error tells what cannot be read.
+pub fn parse(file: &str, line: &str) -> Result<Step, String> {
     let mut columns = Columns::of(line);
     let step = match columns.as_it_stands("step")?.as_str() {
         "session" => columns.as_it_stands("name").map(|_| Step::Start),
@@ -146,7 +158,9 @@ pub fn parse(line: &str) -> Result<Step, String> {
         "return" => on_register(Call::TakeBack, &mut columns),
         "ask" => on_register(Call::Ask, &mut columns),
         "append" => append(&mut columns),
-        "replay" => replay(&mut columns),
+        // This file is older than the counts: its hashes are those of the places alone.
+        "replay" if file == LOG => replay(&mut columns, "places"),
+        "replay" => replay(&mut columns, "area"),
         word => Err(format!("no step is called '{word}'")),
     }?;
     columns.end()?;
@@ -177,9 +191,9 @@ fn append(columns: &mut Columns) -> Result<Step, String> {
     asked(request, columns, &["length", "log"])
 }
 
-fn replay(columns: &mut Columns) -> Result<Step, String> {
+fn replay(columns: &mut Columns, hashed: &'static str) -> Result<Step, String> {
     let request = Request { first: columns.bytes("log")?, ..Request::new(Call::Replay) };
-    asked(request, columns, &["outcome", "place", "area"])
+    asked(request, columns, &["outcome", "place", hashed])
 }
 
 /// A call with the number and the other columns that are due.

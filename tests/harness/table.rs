@@ -1,6 +1,6 @@
 //! The vectors' tables: a line as a request and the answer that is due.
 
-use crate::call::{Call, Fields, Request, Response};
+use crate::call::{values, Call, Fields, Request, Response};
 use crate::hex;
 use std::str::FromStr;
 
@@ -126,10 +126,10 @@ fn parse_response(call: Call, columns: &mut Columns) -> Result<(Response, Fields
     let mut more = Vec::new();
     match call {
         Call::Strict => more.push(("told", columns.as_it_stands("told")?)),
-        Call::Distance => response.values = [columns.number("d")?, columns.number("n")?, columns.bits("ratio")?, 0, 0],
+        Call::Distance => response.values = values([columns.number("d")?, columns.number("n")?, columns.bits("ratio")?]),
         Call::HeaderRead | Call::UnitRead => {
             let [main_type, subtype, version, length] = columns.header()?.map(u64::from);
-            response.values = [main_type, subtype, version, length, columns.number("used")?];
+            response.values = values([main_type, subtype, version, length, columns.number("used")?]);
         }
         _ => response.values[0] = columns.number("length")?,
     }

@@ -61,7 +61,7 @@ impl Labels {
         let [main_type, subtype, version, length] = header.map(u64::from);
         let values = [main_type, subtype, version, length, bytes.len() as u64];
         let read = Request { first: bytes.clone(), ..Request::new(Call::HeaderRead) };
-        self.expect(read, Response { values, ..Response::default() });
+        self.expect(read, Response::told(0, values));
         self.expect(Request { header, area: 8, ..Request::new(Call::HeaderWrite) }, Response::written(bytes));
     }
 
@@ -74,7 +74,7 @@ impl Labels {
     fn used(&mut self, bytes: &str, header: [u64; 4], used: u64) {
         let [main_type, subtype, version, length] = header;
         let request = Request { first: hex::decode(bytes).expect("hex"), ..Request::new(Call::UnitRead) };
-        self.expect(request, Response { values: [main_type, subtype, version, length, used], ..Response::default() });
+        self.expect(request, Response::told(0, [main_type, subtype, version, length, used]));
     }
 
     /// Bytes into bytes, on an area of just their length; 15 on one that is a byte shorter.
@@ -190,8 +190,8 @@ fn distance(labels: &mut Labels) {
         let [first, second] = [a, b].map(|text| hex::decode(text).expect("hex"));
         Request { first, second, ..Request::new(Call::Distance) }
     };
-    let values = [9, 32, 0.28125_f32.to_bits() as u64, 0, 0];
-    labels.expect(request("300000000000", "3000ff000001"), Response { values, ..Response::default() });
+    let due = Response::told(0, [9, 32, 0.28125_f32.to_bits() as u64]);
+    labels.expect(request("300000000000", "3000ff000001"), due);
     labels.expect(request("300000000000", "400000000000"), Response::refused(18));
     labels.expect(request("300000000000", "30000000000000"), Response::refused(19));
 }

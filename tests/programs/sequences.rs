@@ -1,19 +1,20 @@
 //! The vectors' sequences through the linked library: every call on what the one before it left.
 
+use harness::call::{Call, Request};
 use harness::library::{Case, Library, Setting};
 use harness::sequence::{self, Asked, Held, Step};
 use harness::told::{self, Difference, Told};
 use harness::{expected, table};
 
 /// What the sequences have at least, as their README says, so that none is lost unseen: lines of each file, lines for success
-/// and for each number of a call's own, and questions that look at so many places.
+/// and for each number of a call's own, questions that look at so many places, and counts that are spoilt.
 pub const LEAST_OF_A_NUMBER: usize = 50;
 
 fn least_lines(file: &str) -> usize {
     match file {
-        sequence::REGISTER => 1390,
+        sequence::REGISTER => 1496,
         sequence::LOG => 540,
-        _ => 1357,
+        _ => 1449,
     }
 }
 
@@ -40,14 +41,34 @@ fn kinds(file: &str) -> &'static [(&'static str, &'static [&'static str])] {
 /// The questions of a file that find a code, and those that do not, by the looks that are to stand there.
 fn looks(file: &str) -> &'static [(&'static str, &'static [u32])] {
     match file {
-        sequence::REGISTER => &[("ask 0", &[1, 2, 3, 4, 5, 6, 7, 8, 9]), ("ask 22", &[0, 1, 2, 3, 4, 5, 6, 8])],
+        sequence::REGISTER => &[("ask 0", &[1, 2, 3, 4, 5, 6, 7, 8]), ("ask 22", &[1, 2, 3, 4, 5, 6, 8])],
         _ => &[],
     }
 }
 
+/// How many bytes of the counts a file spoils, each at least once.
+fn spoilt_counts(file: &str) -> usize {
+    match file {
+        sequence::REGISTER => 16,
+        _ => 0,
+    }
+}
+
+/// Whether this byte of the area is overwritten, and one of the calls right behind it answers 23.
+fn is_spoilt(steps: &[Step], byte: usize) -> bool {
+    let is_call = |step: &&Step| matches!(step, Step::Call(_));
+    let is_23 = |step: &Step| matches!(step, Step::Call(asked) if asked.due[0].1 == "23");
+    (1..steps.len()).any(|behind| match &steps[behind - 1] {
+        Step::Poke(offset, bytes) if (*offset..offset + bytes.len()).contains(&byte) => {
+            steps[behind..].iter().take_while(is_call).any(is_23)
+        }
+        _ => false,
+    })
+}
+
 /// What a file of sequences has too few of, and overtaken lines if they are more or fewer.
 pub fn too_few(file: &str, text: &str) -> Vec<String> {
-    let steps: Vec<Step> = table::lines(text).flat_map(|(_, line)| sequence::parse(line)).collect();
+    let steps: Vec<Step> = table::lines(text).flat_map(|(_, line)| sequence::parse(file, line)).collect();
     let mut few = Vec::new();
     if steps.len() < least_lines(file) {
         few.push(format!("\n {file}: {} lines", steps.len()));
@@ -75,12 +96,14 @@ pub fn too_few(file: &str, text: &str) -> Vec<String> {
         let missing = all.iter().filter(|looks| !found.contains(looks));
         few.extend(missing.map(|looks| format!("\n {file}: no {kind} with {looks} looks")));
     }
+    let kept = (0..spoilt_counts(file)).filter(|&byte| !is_spoilt(&steps, byte));
+    few.extend(kept.map(|byte| format!("\n {file}: byte {byte} of the counts is never spoilt")));
     few
 }
 
 /// Whether this line is a call.
-pub fn has_call(text: &str, line: u64) -> bool {
-    let is_call = |line| matches!(sequence::parse(line), Ok(Step::Call(_)));
+pub fn has_call(file: &str, text: &str, line: u64) -> bool {
+    let is_call = |line| matches!(sequence::parse(file, line), Ok(Step::Call(_)));
     table::lines(text).any(|(number, step)| number == line && is_call(step))
 }
 
@@ -93,15 +116,18 @@ pub fn run(
     library: &mut Library,
     settings: &[Setting],
 ) -> Result<String, String> {
-    let (mut calls, mut overtaken, mut sequences, mut held, mut bad) = (0, 0, 0, Held::default(), Vec::new());
+    let (mut calls, mut overtaken, mut counts, mut sequences) = (0, 0, 0, 0);
+    let (mut held, mut bad) = (Held::default(), Vec::new());
     for (number, line) in table::lines(text).take_while(|(number, _)| *number <= only.unwrap_or(u64::MAX)) {
         let case = Case { of: file, number };
         let is_told = only.unwrap_or(number) == number;
-        let told = match sequence::parse(line) {
+        let told = match sequence::parse(file, line) {
             Ok(Step::Call(asked)) => {
                 calls += usize::from(is_told);
                 overtaken += usize::from(is_told && asked.is_overtaken());
                 let found = differs(library, &case, &asked, &mut held, settings);
+                counts += usize::from(is_told && asked.counts(&held.area).is_some());
+                let found = found.or_else(|| counts_differ(library, &case, &asked, &held, settings));
                 found.map(|difference| (difference.to_string(), difference.brief()))
             }
             step => {
@@ -118,7 +144,8 @@ pub fn run(
         (0, _) => Err("no call".to_string()),
         (_, 0) => {
             let by_reference = if overtaken > 0 { format!(", {overtaken} by the reference") } else { String::new() };
-            Ok(format!("{calls} calls in {sequences} sequences, each under {} settings{by_reference}", settings.len()))
+            let run = format!("{calls} calls in {sequences} sequences, the counts asked behind {counts}");
+            Ok(format!("{run}, each under {} settings{by_reference}", settings.len()))
         }
         (_, count) => Err(format!("{count} lines differ, of {calls} calls{}", told::list(&bad))),
     }
@@ -145,4 +172,17 @@ fn differs(library: &mut Library, case: &Case, asked: &Asked, held: &mut Held, s
     // A hash does not tell the bytes: where no answer had it, the reference lets the lines behind this one be tested too.
     asked.take(held, found.unwrap_or_else(|| expected::answer(&request).written));
     first
+}
+
+/// Asks for the counts of the area that the call left, under every setting.
+fn counts_differ(
+    library: &mut Library,
+    case: &Case,
+    asked: &Asked,
+    held: &Held,
+    settings: &[Setting],
+) -> Option<Difference> {
+    let due = asked.counts(&held.area)?;
+    let request = Request { second: held.area.clone(), ..Request::new(Call::Counts) };
+    settings.iter().find_map(|setting| library.differs(case, &request, &due, setting))
 }

@@ -1,15 +1,17 @@
-//! The loans register: who has which code, in one area of 256 places. The used ones come first, in rising order of their code
-//! bytes; the others are free.
+//! The loans register: who has which code, in one area of counts and 256 places. The used places come first, in rising order
+//! of their code bytes; the others are free.
 
 use crate::doors::{code_bytes, LONGEST_CODE};
 use crate::refusal::{ALL_OUT, ALREADY_OUT, NOT_OUT, NOT_REGISTER};
-use crate::{demand, unit, Answer};
+use crate::unit::{self, CONTENT, DATA, ID, INSTANCE, ISCC, META, SEMANTIC};
+use crate::{demand, Answer};
 use std::cmp::Ordering;
 
-/// The places of a register, and the bytes of each.
+/// The bytes of the counts, which stand before the places; the places of a register, and the bytes of each.
+pub const COUNTS: usize = 16;
 pub const PLACES: usize = 256;
 pub const PLACE: usize = 48;
-pub const LENGTH: usize = PLACES * PLACE;
+pub const LENGTH: usize = COUNTS + PLACES * PLACE;
 
 /// Where the parts of a place start: behind its length byte the code, filled up with zeros, then a zero byte.
 pub const CODE: usize = 1;
@@ -28,6 +30,9 @@ pub struct Held {
     pub borrower: u32,
     pub looks: u32,
 }
+
+/// How many codes are out: in all, then for main types 0 to 6.
+pub type Counts = [u32; 8];
 
 fn zeros(bytes: &[u8]) -> bool {
     bytes.iter().all(|&byte| byte == 0)
@@ -54,6 +59,23 @@ fn loan_at(place: &[u8]) -> Answer<Option<Loan>> {
     Ok(Some(Loan { code: code.to_vec(), borrower }))
 }
 
+/// The main type of the unit or composite that a code is, which no bytes have that are no code.
+fn main_type(code: &[u8]) -> Option<u32> {
+    unit::read(code).ok().map(|(item, _)| item.main_type())
+}
+
+/// The codes out, and the codes out for each main type.
+fn counted(loans: &[Loan]) -> Counts {
+    let types: Vec<Option<u32>> = loans.iter().map(|loan| main_type(&loan.code)).collect();
+    let of = |one| types.iter().filter(|&&found| found == Some(one)).count() as u32;
+    [loans.len() as u32, of(META), of(SEMANTIC), of(CONTENT), of(DATA), of(INSTANCE), of(ISCC), of(ID)]
+}
+
+/// The counts as they stand before the places: two bytes each, high byte first.
+pub fn counts_bytes(counts: Counts) -> Vec<u8> {
+    counts.into_iter().flat_map(|count| [(count >> 8) as u8, count as u8]).collect()
+}
+
 /// Which of two codes comes first: byte by byte, and a beginning of the other before it.
 fn order(one: &[u8], other: &[u8]) -> Ordering {
     one.cmp(other)
@@ -67,10 +89,12 @@ fn rises(two: &[Loan]) -> bool {
 /// The loans of an area, in their order; 23 where the area is no register.
 fn loans(area: &[u8]) -> Answer<Vec<Loan>> {
     demand(area.len() == LENGTH, NOT_REGISTER)?;
-    let places = area.chunks(PLACE).map(loan_at).collect::<Answer<Vec<_>>>()?;
+    let (counts, places) = area.split_at(COUNTS);
+    let places = places.chunks(PLACE).map(loan_at).collect::<Answer<Vec<_>>>()?;
     demand(places.iter().skip_while(|place| place.is_some()).all(Option::is_none), NOT_REGISTER)?;
     let loans: Vec<Loan> = places.into_iter().flatten().collect();
     demand(loans.windows(2).all(rises), NOT_REGISTER)?;
+    demand(counts == counts_bytes(counted(&loans)), NOT_REGISTER)?;
     Ok(loans)
 }
 
@@ -83,9 +107,10 @@ pub fn place_of(code: &[u8], borrower: u32) -> Vec<u8> {
     place
 }
 
-/// The register of some loans in their order: their places, and free ones behind.
+/// The register of some loans in their order: all of them counted, then their places, and free ones behind.
 fn area_of(loans: &[Loan]) -> Vec<u8> {
-    let mut area: Vec<u8> = loans.iter().flat_map(|loan| place_of(&loan.code, loan.borrower)).collect();
+    let mut area = counts_bytes(counted(loans));
+    area.extend(loans.iter().flat_map(|loan| place_of(&loan.code, loan.borrower)));
     area.resize(LENGTH, 0);
     area
 }
@@ -149,4 +174,9 @@ pub fn ask(text: &[u8], area: &[u8]) -> Held {
         Ok((None, looks)) => Held { number: NOT_OUT, borrower: 0, looks },
         Ok((Some(borrower), looks)) => Held { number: 0, borrower, looks },
     }
+}
+
+/// How many codes are out: 23.
+pub fn counts(area: &[u8]) -> Answer<Counts> {
+    Ok(counted(&loans(area)?))
 }

@@ -40,6 +40,20 @@ pub struct Holder {
 }
 
 #[repr(C)]
+#[derive(Default)]
+pub struct Counted {
+    number: u32,
+    out: u32,
+    meta: u32,
+    semantic: u32,
+    content: u32,
+    data: u32,
+    instance: u32,
+    iscc: u32,
+    id: u32,
+}
+
+#[repr(C)]
 pub struct ReplayAnswer {
     number: u32,
     end: u32,
@@ -189,6 +203,16 @@ pub unsafe extern "C" fn loans_return(text: *const u8, text_len: usize, area: *m
 pub unsafe extern "C" fn loans_ask(text: *const u8, text_len: usize, area: *const u8, area_len: usize) -> Holder {
     let Held { number, borrower, looks } = register::ask(lent(text, text_len), lent(area, area_len));
     Holder { number, borrower, looks }
+}
+
+#[no_mangle]
+pub unsafe extern "C" fn loans_counts(area: *const u8, area_len: usize) -> Counted {
+    match register::counts(lent(area, area_len)) {
+        Err(number) => Counted { number, ..Counted::default() },
+        Ok([out, meta, semantic, content, data, instance, iscc, id]) => {
+            Counted { number: 0, out, meta, semantic, content, data, instance, iscc, id }
+        }
+    }
 }
 
 #[no_mangle]

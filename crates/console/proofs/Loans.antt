@@ -1,20 +1,26 @@
 -- What the register and its log promise holds of what C sees.
-use Prim.Native.Nat.{ℕ}
-use mathlib.Core.Path.{_≡_, refl, _∙_, ap, ap₂}
+use Prim.Native.Nat.{ℕ, _+_}
+use mathlib.Core.Path.{_≡_, refl, sym, _∙_, ap, ap₂}
+use mathlib.Core.Bool.{true≢false}
 use mathlib.Core.List.{List, [], _∷_, map}
+use lib.ListN.{getD}
 use Rattle.iscc.specs.Answer.{Answer, accept, refuse, numberOf}
 use Rattle.loans.specs.Calls.{Call, issue, takeBack, ask, done, answers}
 use Rattle.loans.specs.Register.{changedArea, askedArea, callArea}
-use Rattle.loans.specs.Contents.{register, issueText, returnText, askText, looksText}
+use Rattle.loans.specs.Contents.{isRegister, register, emptyRegister, issueText, returnText, askText, looksText, countsAsked}
 use Rattle.loans.specs.Replay.{Replayed, replayed, areaReplayed}
 use Rattle.loans.specs.PendingLog.{applyRecord, replayLog}
-use Rattle.loans.specs.Operations.{Operation, live, replay, perform}
+use Rattle.loans.specs.Operations.{Operation, live, replay, GoodOperations, perform}
 use Rattle.loans.specs.Operations as operations
 use Rattle.loans.proofs.Promises.{loans-register}
 use Rattle.loans.proofs.OrderPromises.{register-in-order}
+use Rattle.loans.specs.Moves.{numberAt}
+use Rattle.loans.specs.CodesOut.{issues, returns, allDone}
 use Rattle.loans.proofs.LogPromises.{pending-log}
+use Rattle.loans.proofs.CountPromises.{how-many-out, not-told}
+use Rattle.register.specs.Representation.{countsAs}
 use Rattle.console.specs.Representation.{holderAnswerAs, replayAnswerAs}
-use Rattle.console.specs.Loans.{CallAnswer, answerAs, withoutLooks, told, left, allTold, Heard, ofCall, ofReplay, heardAs, heard, leaves, allHeard, ConsoleLoans}
+use Rattle.console.specs.Loans.{CallAnswer, answerAs, withoutLooks, told, left, allTold, Heard, ofCall, ofReplay, heardAs, heard, leaves, allHeard, allLeft, allMade, ConsoleLoans}
 
 -- a change tells its number, and no borrower
 change-told : {S : Type 0} (x : Answer S) → _≡_ {A = CallAnswer} (record { number = numberOf x; borrower = 0 }) (answerAs (done x))
@@ -67,11 +73,29 @@ all-heard [] area = refl
 all-heard (w ∷ ws) area =
     ap₂ (λ (x : Heard) (xs : List Heard). x ∷ xs) (is-heard w area) (ap (allHeard ws) (is-left w area) ∙ all-heard ws (performed w area .state))
 
+-- ---- how many are out
+
+all-left : (ws : List Operation) (area : List ℕ) → allLeft ws area ≡ allDone register applyRecord ws area
+all-left [] area = refl
+all-left (w ∷ ws) area = ap (allLeft ws) (is-left w area) ∙ all-left ws (performed w area .state)
+
+codes-out : (ws : List Operation) → GoodOperations ws → (area : List ℕ) → allDone register applyRecord ws emptyRegister ≡ area
+    → (countsAs (countsAsked area) .number ≡ 0) × (countsAs (countsAsked area) .out + returns (allMade ws) ≡ issues (allMade ws))
+codes-out ws g area e = go (countsAsked area) refl
+  where
+    go : (x : Answer (List ℕ)) → countsAsked area ≡ x → (countsAs x .number ≡ 0) × (countsAs x .out + returns (allMade ws) ≡ issues (allMade ws))
+    go (accept ns) w =
+        let n : getD ns 0 0 ≡ numberAt 0 (allDone register applyRecord ws emptyRegister) =
+        ap (λ (ks : List ℕ). getD ks 0 0) (how-many-out .told area ns w) ∙ ap (numberAt 0) (sym e) in
+        (refl, ap (λ (k : ℕ). k + returns (allMade ws)) n ∙ how-many-out .firstNumber ws g)
+    go (refuse q) w = absurd (true≢false (sym (ap isRegister (sym e) ∙ how-many-out .keptByAll ws g) ∙ not-told area q w .1))
+
 pub console-loans : ConsoleLoans
 console-loans =
     record {
       asPlainMap = λ ks g. all-told ks _ ∙ ap (map answerAs) (loans-register .asPlainMap ks g);
       asMap = λ ws g. all-heard ws _ ∙ ap (map heardAs) (pending-log .asMap ws g);
+      codesOut = λ ws g. rw (all-left ws emptyRegister) (codes-out ws g (allDone register applyRecord ws emptyRegister) refl);
       nine = λ t area. rw (looks-told (askText t area) (looksText t area)) (register-in-order .looks .nine t area);
     }
   where

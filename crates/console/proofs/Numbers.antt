@@ -14,7 +14,7 @@ use Rattle.iscc.proofs.Numbers.{Numbered, number-table, number-0, outcome-numbe
 use Rattle.distance.specs.Representation.{measuredAs}
 use Rattle.iscc.proofs.Answer.{never, refuse-inj, value-of}
 use Rattle.loans.specs.Map.{Change}
-use Rattle.loans.specs.Contents.{isRegister, register, askText, looksText}
+use Rattle.loans.specs.Contents.{isRegister, register, askText, looksText, countsAsked}
 use Rattle.loans.specs.Fields.{fieldBytes}
 use Rattle.loans.specs.Writer.{Written}
 use Rattle.loans.specs.Replay.{End, ended, torn, stopped, Replayed, replayFrom, inBytes, replayed}
@@ -22,6 +22,8 @@ use Rattle.loans.specs.LogOrder.{stopOf}
 use Rattle.loans.specs.PendingLog.{recordOf, writeRecord, applyRecord, replayLog}
 use Rattle.loans.proofs.Promises.{loans-register}
 use Rattle.loans.proofs.LogPromises.{pending-log}
+use Rattle.loans.proofs.CountPromises.{not-told}
+use Rattle.register.specs.Representation.{countsAs}
 use Rattle.console.specs.Representation.{distanceAnswerAs, holderAnswerAs, recordOutcome, endAnswer, replayAnswerAs}
 use Rattle.console.specs.Numbers.{NumberFor, ToldOf, notStopped, ConsoleNumbers}
 
@@ -46,6 +48,13 @@ distance-number (refuse q) = refl
 holder-number : (x : Answer ℕ) (looks : ℕ) → holderAnswerAs x looks .number ≡ numberOf x
 holder-number (accept b) looks = refl
 holder-number (refuse q) looks = refl
+
+counts-number : (x : Answer (List ℕ)) → countsAs x .number ≡ numberOf x
+counts-number (accept ns) = refl
+counts-number (refuse q) = refl
+
+counts-numbers : (area : List ℕ) (q : Refusal) → countsAsked area ≡ refuse q → (1 ≤ q .number) × (q .number ≤ 23)
+counts-numbers area q e = let n : q .number ≡ 23 = ap (λ (r : Refusal). r .number) (not-told area q e .0) in (omega arith, omega arith)
 
 -- ---- the log
 
@@ -100,6 +109,7 @@ console-numbers =
       issueTold = λ t b area. exact 23 _ (loans-register .numbers .issueNumber t b area);
       returnTold = λ t area. exact 23 _ (loans-register .numbers .returnNumber t area);
       askTold = λ t area. rw (holder-number (askText t area) (looksText t area)) (exact 23 _ (loans-register .numbers .askNumber t area));
+      countsTold = λ area. rw (counts-number (countsAsked area)) (exact 23 _ (counts-numbers area));
       recordTold = λ ch log position. rw (record-number position (writeRecord ch log position)) (exact 24 _ (pending-log .writeNumber ch log position));
       recordLength = record-length;
       replayTold = λ log area. rw (replay-number (replayLog log area)) (exact 24 _ (replay-numbers log area));

@@ -1,17 +1,19 @@
 -- What the register and its log promise, over what the entries tell C and leave in the area, as their contracts have it.
 -- proofs/Loans.antt proves it.
-use Prim.Native.Nat.{ℕ, _≤_}
+use Prim.Native.Nat.{ℕ, _+_, _≤_}
 use mathlib.Core.Path.{_≡_}
 use mathlib.Core.List.{List, [], _∷_, map}
 use Rattle.iscc.specs.Answer.{Answer, accept, refuse, numberOf}
-use Rattle.loans.specs.Map.{mapChanged, mapAsked}
+use Rattle.loans.specs.Map.{Change, mapChanged, mapAsked}
 use Rattle.loans.specs.Calls.{Call, issue, takeBack, ask, afterwards, answers}
-use Rattle.loans.specs.Contents.{emptyRegister, issueText, returnText, askText, looksText}
+use Rattle.loans.specs.Contents.{register, emptyRegister, issueText, returnText, askText, looksText, countsAsked}
 use Rattle.loans.specs.Good.{GoodCalls}
 use Rattle.loans.specs.Replay.{replayFrom, areaReplayed}
-use Rattle.loans.specs.PendingLog.{applyToMap, replayLog}
+use Rattle.loans.specs.PendingLog.{applyRecord, applyToMap, replayLog}
 use Rattle.loans.specs.Operations.{Operation, live, replay, GoodOperations, Told, answered, ran}
 use Rattle.loans.specs.Operations as operations
+use Rattle.loans.specs.CodesOut.{issues, returns, allChanges, takesRecord}
+use Rattle.register.specs.Representation.{countsAs}
 use Rattle.console.specs.declared.lending.HolderAnswer.{HolderAnswer}
 use Rattle.console.specs.declared.logging.ReplayAnswer.{ReplayAnswer}
 use Rattle.console.specs.Representation.{holderAnswerAs, endAnswer, replayAnswerAs}
@@ -69,6 +71,14 @@ abbrev pub allHeard : List Operation → List ℕ → List Heard
 allHeard [] area = []
 allHeard (w ∷ ws) area = heard w area ∷ allHeard ws (leaves w area)
 
+abbrev pub allLeft : List Operation → List ℕ → List ℕ
+allLeft [] area = area
+allLeft (w ∷ ws) area = allLeft ws (leaves w area)
+
+-- the changes that they made: the accepted issues and returns, and those that replay applied
+abbrev pub allMade : List Operation → List Change
+allMade ws = allChanges register applyRecord takesRecord ws emptyRegister
+
 pub record ConsoleLoans : Type 0 where
   -- "Over any calls from an empty register, written by them alone, the answers are those of a plain map of at most 256 codes."
   pub asPlainMap : (ks : List Call) → GoodCalls ks → allTold ks emptyRegister ≡ map answerAs (answers mapChanged mapAsked ks [])
@@ -77,3 +87,6 @@ pub record ConsoleLoans : Type 0 where
       → allHeard ws emptyRegister ≡ map heardAs (operations.allTold mapChanged mapAsked (λ log m. accept (replayFrom applyToMap 0 log m)) ws [])
   -- "at most 9"
   pub nine : (t area : List ℕ) → holderAnswerAs (askText t area) (looksText t area) .looks ≤ 9
+  -- "the first number is accepted issues minus accepted returns", and it is told without 23
+  pub codesOut : (ws : List Operation) → GoodOperations ws
+      → let a = countsAs (countsAsked (allLeft ws emptyRegister)) in (a .number ≡ 0) × (a .out + returns (allMade ws) ≡ issues (allMade ws))

@@ -14,11 +14,12 @@ use Rattle.iscc.specs.Representation.{writtenAs, outcomeAs}
 use Rattle.iscc.specs.declared.written.Outcome.{Outcome}
 use Rattle.distance.specs.Representation.{measuredAs}
 use Rattle.loans.specs.Map.{Change}
-use Rattle.loans.specs.Contents.{issueText, returnText, askText, looksText}
+use Rattle.loans.specs.Contents.{issueText, returnText, askText, looksText, countsAsked}
 use Rattle.loans.specs.Fields.{fieldBytes}
 use Rattle.loans.specs.Replay.{Replayed}
 use Rattle.loans.specs.LogOrder.{stopOf}
 use Rattle.loans.specs.PendingLog.{recordOf, writeRecord, replayLog}
+use Rattle.register.specs.Representation.{countsAs}
 use Rattle.console.specs.Representation.{distanceAnswerAs, holderAnswerAs, recordOutcome, replayAnswerAs}
 
 -- a number that is 0 exactly where the definition accepts, and else one of the table up to the given one
@@ -49,6 +50,7 @@ pub record ConsoleNumbers : Type 0 where
   pub issueTold : (t : List ℕ) (b : ℕ) (area : List ℕ) → NumberFor 23 (issueText t b area) (numberOf (issueText t b area))
   pub returnTold : (t area : List ℕ) → NumberFor 23 (returnText t area) (numberOf (returnText t area))
   pub askTold : (t area : List ℕ) → NumberFor 23 (askText t area) (holderAnswerAs (askText t area) (looksText t area) .number)
+  pub countsTold : (area : List ℕ) → NumberFor 23 (countsAsked area) (countsAs (countsAsked area) .number)
   -- those of the log, which have 24 too: a record's length is told,
   pub recordTold : (ch : Change) (log : List ℕ) (position : ℕ) → NumberFor 24 (writeRecord ch log position) (recordOutcome position (writeRecord ch log position) .number)
   pub recordLength : (ch : Change) (log : List ℕ) (position : ℕ) → Accepted (writeRecord ch log position)

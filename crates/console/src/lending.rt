@@ -2,8 +2,10 @@
 ghost use mathlib.Core.Path.{_≡_};
 ghost use Rattle.iscc.specs.Answer.{numberOf};
 ghost use Rattle.loans.specs.Calls.{afterwards};
-ghost use Rattle.loans.specs.Contents.{issueText, returnText, askText, looksText};
+ghost use Rattle.loans.specs.Contents.{issueText, returnText, askText, looksText, countsAsked};
 ghost use Rattle.console.specs.Representation.{holderAnswerAs};
+ghost use Rattle.register.specs.Representation.{countsAs};
+use register::answer::Counts;
 use register::answer::Holder;
 
 // Number 0 and the borrower; or a refusal and 0. And how many places a question looked at.
@@ -51,4 +53,11 @@ pub extern "C" fn loans_ask(text: &[u8], area: &[u8]) -> HolderAnswer
             looks: looks,
         },
     }
+}
+
+#[no_mangle]
+pub extern "C" fn loans_counts(area: &[u8]) -> Counts
+    ensures { λ r. ⌜ r ≡ countsAs (countsAsked (now (area .entry))) ⌝ }
+{
+    register::calls::counts(area)
 }

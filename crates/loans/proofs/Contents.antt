@@ -1,62 +1,119 @@
 -- Valid areas are exactly the bytes of good contents, and the register answers as the plain map does.
 use Prim.Native.Nat.{ℕ, suc, _≤_, _<_}
-use mathlib.Core.Path.{_≡_, refl, _∙_, ap, subst}
-use mathlib.Core.Bool.{true}
+use mathlib.Core.Path.{_≡_, refl, sym, _∙_, ap, ap₂, subst}
+use mathlib.Core.Bool.{Bool, true, _&&_}
 use mathlib.Core.Option.{none}
-use mathlib.Core.List.{List, [], _∷_}
+use mathlib.Core.List.{List, [], _∷_, _++_}
 use native.Mathlib.Omega.{arith}
-use lib.ListN.{length}
+use lib.ListN.{length, take, drop, length-append, length-drop}
+use lib.Seq.{take-at, drop-at, take-all, take-add, length-take-le}
 use lib.Dec.{eqb}
 use borrow.Author.Tests.{eq-eqb, eqb-true}
 use Rattle.iscc.specs.Answer.{Answer, accept, refuse}
 use Rattle.iscc.specs.Digits.{Below}
+use Rattle.iscc.specs.Lists.{sameBytes}
 use Rattle.iscc.proofs.Booleans.{both-true}
+use Rattle.iscc.proofs.Digits.{below-take, below-drop}
+use Rattle.iscc.proofs.Demand3.{sameBytes-refl, sameBytes-eq}
 use Rattle.loans.specs.Loan.{Loan, find, without}
 use Rattle.loans.specs.Map.{Change, mapChanged, holderOf, mapAsked}
 use Rattle.loans.specs.Calls.{Call}
+use Rattle.loans.specs.Place.{zeros, placesBytes}
 use Rattle.loans.specs.Order.{placed, areOrdered, loansAt, put}
 use Rattle.loans.specs.Halving.{askedLoans}
+use Rattle.loans.specs.Counts.{countsBytes}
 use Rattle.loans.specs.Register.{changedArea, askedArea}
-use Rattle.loans.specs.Contents.{Contents, loansOf, contentsOf, isRegister, bytesOf, applied, register, emptyRegister}
+use Rattle.loans.specs.Contents.{Contents, loansOf, countsPart, placesPart, contentsOf, isRegister, bytesOf, applied, register, emptyRegister}
 use Rattle.loans.specs.Good.{GoodLoan, Rising, GoodContents, GoodChange, GoodCalls, Sound}
-use Rattle.loans.proofs.Places.{free-bytes}
+use Rattle.loans.proofs.Places.{free-bytes, zeros-more}
 use Rattle.loans.proofs.Map.{Same, same-refl, Both, Held, agrees}
 use Rattle.loans.proofs.Calls.{InArea, AllAlike, area-alike}
 use Rattle.loans.proofs.Order.{rising-distinct, put-good, put-rising, put-same, without-rising, without-good, fewer}
 use Rattle.loans.proofs.OrderedPlaces.{placed-size, placed-back, placed-ordered, loans-few, loans-rising, loans-good, loans-again}
 use Rattle.loans.proofs.Halving.{search-finds}
+use Rattle.loans.proofs.Counts.{length-counts, no-counts}
 
 -- ---- valid areas are exactly the bytes of good contents
 
 -- what the test says of an area
-pub register-known : (area : List ℕ) → isRegister area ≡ true → (length area ≡ 12288) × (areOrdered area ≡ true)
+pub record Known (area : List ℕ) : Type 0 where
+  pub size : length area ≡ 12304
+  pub placesSize : length (placesPart area) ≡ 12288
+  pub ordered : areOrdered (placesPart area) ≡ true
+  pub counted : countsPart area ≡ countsBytes (loansAt (placesPart area))
+
+pub register-known : (area : List ℕ) → isRegister area ≡ true → Known area
 unfolding isRegister
-register-known area e = let a = both-true (eqb (length area) 12288) (areOrdered area) e in (eqb-true (length area) 12288 (a .0), a .1)
+register-known area e =
+    let counted : Bool = sameBytes (countsPart area) (countsBytes (loansAt (placesPart area))) in
+    let a = both-true (eqb (length area) 12304 && areOrdered (placesPart area)) counted e in
+    let b = both-true (eqb (length area) 12304) (areOrdered (placesPart area)) (a .0) in
+    let n : length area ≡ 12304 = eqb-true (length area) 12304 (b .0) in
+    record {
+      size = n;
+      placesSize = length-take-le 12288 (drop 16 area) (omega (arith, n, length-drop 16 area));
+      ordered = b .1;
+      counted = sameBytes-eq (countsPart area) (countsBytes (loansAt (placesPart area))) (a .1);
+    }
 
 pub contents-rising : (area : List ℕ) → isRegister area ≡ true → Rising (contentsOf area)
-contents-rising area e = loans-rising area (register-known area e .1)
+contents-rising area e = loans-rising (placesPart area) (register-known area e .ordered)
+
+is-register : (area : List ℕ) → length area ≡ 12304 → areOrdered (placesPart area) ≡ true
+    → sameBytes (countsPart area) (countsBytes (loansAt (placesPart area))) ≡ true → isRegister area ≡ true
+unfolding isRegister
+is-register area n o c = rw (eq-eqb (length area) 12304 n, o, c)
 
 module _ (ls : Contents) (g : GoodContents ls) where
-  holds : loansAt (bytesOf ls) ≡ ls
+  abbrev places : List ℕ
+  places = placesBytes (placed 256 ls)
+
+  places-size : length places ≡ 12288
+  places-size = placed-size ls (g .count) (g .loans)
+
+  front-is : countsPart (bytesOf ls) ≡ countsBytes ls
   unfolding bytesOf
-  holds = placed-back ls (g .count) (g .loans)
+  front-is = take-at (countsBytes ls) places 16 (length-counts ls)
+
+  pub behind-is : placesPart (bytesOf ls) ≡ placesBytes (placed 256 ls)
+  unfolding bytesOf
+  behind-is = ap (take 12288) (drop-at (countsBytes ls) places 16 (length-counts ls)) ∙ take-all 12288 places (omega (arith, places-size))
+
+  size-is : length (bytesOf ls) ≡ 12304
+  unfolding bytesOf
+  size-is = length-append (countsBytes ls) places ∙ omega (arith, length-counts ls, places-size)
+
+  holds : loansAt (placesPart (bytesOf ls)) ≡ ls
+  holds = ap loansAt behind-is ∙ placed-back ls (g .count) (g .loans)
+
+  ordered : areOrdered (placesPart (bytesOf ls)) ≡ true
+  ordered = ap areOrdered behind-is ∙ placed-ordered ls (g .count) (g .loans) (g .order)
+
+  counted : sameBytes (countsPart (bytesOf ls)) (countsBytes (loansAt (placesPart (bytesOf ls)))) ≡ true
+  counted = ap₂ sameBytes front-is (ap countsBytes holds) ∙ sameBytes-refl (countsBytes ls)
 
   written : isRegister (bytesOf ls) ≡ true
-  unfolding isRegister bytesOf
-  written = rw (eq-eqb _ 12288 (placed-size ls (g .count) (g .loans))) (placed-ordered ls (g .count) (g .loans) (g .order))
+  written = is-register (bytesOf ls) size-is ordered counted
 
 module _ (area : List ℕ) (k : Below 256 area) (e : isRegister area ≡ true) where
+  places-bytes : Below 256 (placesPart area)
+  places-bytes = below-take 256 12288 (drop 16 area) (below-drop 256 16 area k)
+
   good : GoodContents (contentsOf area)
   good =
+      let p = register-known area e in
       record {
-        count = loans-few area;
-        loans = loans-good area (register-known area e .1) (register-known area e .0) k;
+        count = loans-few (placesPart area);
+        loans = loans-good (placesPart area) (p .ordered) (p .placesSize) places-bytes;
         order = contents-rising area e;
       }
 
   again : bytesOf (contentsOf area) ≡ area
   unfolding bytesOf
-  again = loans-again area (register-known area e .1) (register-known area e .0) k
+  again =
+      let p = register-known area e in
+      ap₂ (λ (a b : List ℕ). a ++ b) (sym (p .counted)) (loans-again (placesPart area) (p .ordered) (p .placesSize) places-bytes)
+      ∙ sym (take-add 16 12288 area) ∙ take-all 12304 area (omega (arith, p .size))
 
 pub register-sound : Sound register GoodContents
 register-sound = record { valid = written; back = holds; good = good; again = again }
@@ -105,13 +162,16 @@ register-asks c ls m h = asks-find c ls (h .good .order) ∙ ap holderOf (h .sam
 abbrev pub HoldsContents : List ℕ → List Loan → Type 0
 HoldsContents = InArea register HeldContents
 
-pub empty-held : HoldsContents emptyRegister []
+no-loans : bytesOf [] ≡ zeros 12304
 unfolding bytesOf placed
+no-loans = ap₂ (λ (a b : List ℕ). a ++ b) no-counts (free-bytes 256) ∙ zeros-more 16 12288
+
+pub empty-held : HoldsContents emptyRegister []
 empty-held =
     record {
       contents = [];
       held = record { good = record { count = omega arith; loans = tt; order = tt }; same = same-refl []; distinct = tt };
-      bytes = free-bytes 256;
+      bytes = no-loans;
     }
 
 pub register-alike : (ks : List Call) (area : List ℕ) (m : List Loan) → GoodCalls ks → HoldsContents area m

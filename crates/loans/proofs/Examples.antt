@@ -17,6 +17,8 @@ use Rattle.octets.specs.Order.{before}
 use Rattle.loans.specs.Place.{zeros, free, placeBytes, placesBytes, placeOf, isPlace}
 use Rattle.loans.specs.Order.{follows, inOrder, placed, put}
 use Rattle.loans.specs.Halving.{halving, searched}
+use Rattle.loans.specs.Counts.{codeType, countOf, inPairs, countsBytes}
+use Rattle.loans.specs.Moves.{pasted, numberAt, withNumber, oneMore, oneLess}
 use Rattle.loans.specs.Fields.{fieldBytes, firstSize, firstIsWhole, firstField}
 use Rattle.loans.specs.Log.{recordsUpTo, recordsFrom}
 use Rattle.loans.specs.Replay.{replayAll}
@@ -24,7 +26,7 @@ use Rattle.loans.specs.Records.{isRecord, changeOf, applyChange}
 use Rattle.loans.specs.Examples.{Examples}
 
 pub examples : Examples
-unfolding digits value allBelow byteCount spareCount fromDigits upper indexOf digitIn decode base32 firstOf prefixOf rowOf rowBy varnibble readVarnibble nibbles packed headerBytes readHeader typeOf mainTypeOf sets setOf unitTypes compositeSubtype isWide row bodyBytes itemBytes readItem readOne cut compositeOf wideOf meaningAs unitLengthNumber flatten itemOf readUpTo readItems every pairwise bodyIn subtypeIn subtypeOf compositeFrom meaningOfItems isBlank trimStart trimEnd sameBytes scheme schemeLength dropHyphens trimmed behindScheme cleaned decodeRun payload itemsOfText meaningOfText codeBytes oneCode find without before zeros free placeBytes placesBytes placeOf isPlace follows inOrder placed put halving searched changeWith fieldBytes firstSize firstIsWhole firstField recordsUpTo recordsFrom replayAll isRecord changeOf applyChange
+unfolding digits value allBelow byteCount spareCount fromDigits upper indexOf digitIn decode base32 firstOf prefixOf rowOf rowBy varnibble readVarnibble nibbles packed headerBytes readHeader typeOf mainTypeOf sets setOf unitTypes compositeSubtype isWide row bodyBytes itemBytes readItem readOne cut compositeOf wideOf meaningAs unitLengthNumber flatten itemOf readUpTo readItems every pairwise bodyIn subtypeIn subtypeOf compositeFrom meaningOfItems isBlank trimStart trimEnd sameBytes scheme schemeLength dropHyphens trimmed behindScheme cleaned decodeRun payload itemsOfText meaningOfText codeBytes oneCode find without before zeros free placeBytes placesBytes placeOf isPlace follows inOrder placed put halving searched codeType countOf inPairs countsBytes pasted numberAt withNumber oneMore oneLess changeWith fieldBytes firstSize firstIsWhole firstField recordsUpTo recordsFrom replayAll isRecord changeOf applyChange
 examples =
     record {
       place = refl;
@@ -53,6 +55,16 @@ examples =
       foundLast = refl;
       notFound = refl;
       noneOut = refl;
+      typeOfUnit = refl;
+      typeOfList = refl;
+      typeOfWide = refl;
+      typeOfId = refl;
+      countedFour = refl;
+      countedNone = refl;
+      highByteFirst = refl;
+      oneMoreUnit = refl;
+      oneLessId = refl;
+      carried = refl;
       typedApart = refl;
       typedSmall = refl;
       typedAround = refl;

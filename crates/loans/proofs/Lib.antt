@@ -8,6 +8,8 @@ pub mod Calls
 pub mod Order
 pub mod OrderedPlaces
 pub mod Halving
+pub mod Counts
+pub mod CodeType
 pub mod Contents
 pub mod Moves
 pub mod RefusalOrder
@@ -25,7 +27,11 @@ pub mod PendingLog
 pub mod LogOrder
 pub mod Settled
 pub mod ReadBack
+pub mod Made
 pub mod LiveRun
+pub mod Balance
+pub mod CodesOut
+pub mod CountPromises
 pub mod LogPromises
 pub mod WideLoans
 pub mod Examples

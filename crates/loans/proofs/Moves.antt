@@ -73,7 +73,7 @@ good-take zero ls g = tt
 good-take (suc n) [] g = tt
 good-take (suc n) (l ∷ ls) g = (g .0, good-take n ls (g .1))
 
-good-at : (ls : List Loan) (i : ℕ) → GoodLoans ls → i < length ls → GoodLoan (loanIn ls i)
+pub good-at : (ls : List Loan) (i : ℕ) → GoodLoans ls → i < length ls → GoodLoan (loanIn ls i)
 good-at [] i g h = absurd (not-suc-le-zero h)
 good-at (l ∷ ls) zero g h = g .0
 good-at (l ∷ ls) (suc i) g h = good-at ls i (g .1) (le-of-suc-le-suc h)

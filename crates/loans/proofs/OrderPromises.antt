@@ -1,9 +1,9 @@
 -- What is promised of the register's order and of a question's looks holds.
 use Prim.Native.Nat.{ℕ, _+_, _-_, _*_, _≤_, _<_}
-use mathlib.Core.Path.{_≡_, refl, sym, _∙_, ap, subst}
+use mathlib.Core.Path.{_≡_, refl, sym, _∙_, ap, ap₂, subst}
 use mathlib.Core.Bool.{Bool, true, false, not, false≢true, true≢false}
 use mathlib.Core.Option.{some}
-use mathlib.Core.List.{List}
+use mathlib.Core.List.{List, _++_}
 use native.Mathlib.Omega.{arith}
 use lib.ListN.{length, getD, take, drop}
 use lib.Seq.{drop-at}
@@ -17,35 +17,41 @@ use Rattle.iscc.proofs.Answer.{passed, answered, accept-inj, rest-accepts}
 use Rattle.loans.specs.Loan.{loanOf, isOut, without}
 use Rattle.loans.specs.Map.{issueCode, returnCode, changeWith}
 use Rattle.loans.specs.Calls.{issued, returned}
-use Rattle.loans.specs.Place.{zeros, placeBytes}
-use Rattle.loans.specs.Order.{put}
+use Rattle.loans.specs.Place.{zeros, placeBytes, placesBytes}
+use Rattle.loans.specs.Order.{placed, put}
 use Rattle.loans.specs.Halving.{searched, looks, loanIn}
 use Rattle.loans.specs.Register.{changedArea}
-use Rattle.loans.specs.Contents.{Contents, contentsOf, isRegister, bytesOf, applied, register, reported, issueText, returnText, looksText}
-use Rattle.loans.specs.Good.{GoodContents}
-use Rattle.loans.specs.Moves.{putIn, takenOut}
+use Rattle.loans.specs.Contents.{Contents, countsPart, placesPart, contentsOf, isRegister, bytesOf, applied, register, reported, issueText, returnText, looksText}
+use Rattle.loans.specs.Counts.{codeType, countsBytes}
+use Rattle.loans.specs.Good.{IsCode, GoodContents}
+use Rattle.loans.specs.Moves.{putIn, takenOut, oneMore, oneLess}
 use Rattle.loans.specs.OrderPromises.{codeAt, InOrder, IssueMoves, ReturnMoves, LooksCounted, SearchFinds, RegisterInOrder}
 use Rattle.loans.proofs.Loan.{code-in}
 use Rattle.loans.proofs.Order.{rising-at, rising-distinct}
 use Rattle.loans.proofs.OrderedPlaces.{loans-few, byte-used, code-there}
 use Rattle.loans.proofs.Halving.{Around, Ends, there, between, search-ends, search-out, put-between, without-at, nine-looks, search-bound}
-use Rattle.loans.proofs.Contents.{register-known, contents-rising, register-sound}
-use Rattle.loans.proofs.Moves.{usedBytes, used-length, placed-bytes, issue-bytes, return-bytes}
+use Rattle.loans.proofs.Contents.{register-known, contents-rising, register-sound, behind-is}
+use Rattle.loans.proofs.Counts.{one-more, counts-put, one-less}
+use Rattle.loans.proofs.CodeType.{code-type}
+use Rattle.loans.proofs.Moves.{usedBytes, used-length, placed-bytes, good-at, issue-bytes, return-bytes}
 
 module _ (area : List ℕ) (v : isRegister area ≡ true) where
   abbrev ls : Contents
   ls = contentsOf area
 
+  abbrev places : List ℕ
+  places = placesPart area
+
   -- ---- one place
 
-  code-is : (j : ℕ) → j < length ls → codeAt j area ≡ loanIn ls j .code
+  code-is : (j : ℕ) → j < length ls → codeAt j places ≡ loanIn ls j .code
   code-is j h =
       let a = register-known area v in
-      let k : 48 * j + 1 + getD area (48 * j) 0 - (48 * j + 1) ≡ getD area (48 * j) 0 = omega arith in
-      ap (λ (n : ℕ). take n (drop (48 * j + 1) area)) (sym k) ∙ code-there area (a .1) (a .0) j h (getD area (48 * j) 0) refl
+      let k : 48 * j + 1 + getD places (48 * j) 0 - (48 * j + 1) ≡ getD places (48 * j) 0 = omega arith in
+      ap (λ (n : ℕ). take n (drop (48 * j + 1) places)) (sym k) ∙ code-there places (a .ordered) (a .placesSize) j h (getD places (48 * j) 0) refl
 
-  used-byte : (j : ℕ) → j < length ls → 0 < getD area (48 * j) 0
-  used-byte j h = let a = register-known area v in let n = byte-used area (a .1) (a .0) j h in omega (arith, n)
+  used-byte : (j : ℕ) → j < length ls → 0 < getD places (48 * j) 0
+  used-byte j h = let a = register-known area v in let n = byte-used places (a .ordered) (a .placesSize) j h in omega (arith, n)
 
   -- ---- the search
 
@@ -75,18 +81,24 @@ module _ (area : List ℕ) (v : isRegister area ≡ true) where
     good : GoodContents ls
     good = register-sound .good area k v
 
+    -- the bytes of the contents by their parts
+    counted : countsBytes ls ≡ countsPart area
+    counted = sym (register-known area v .counted)
+
+    placed-again : placesBytes (placed 256 ls) ≡ places
+    placed-again = sym (behind-is ls good) ∙ ap placesPart (register-sound .again area k v)
+
     -- ---- the order
 
-    rest-free : drop (48 * length ls) area ≡ zeros (48 * (256 - length ls))
-    unfolding bytesOf
+    rest-free : drop (48 * length ls) places ≡ zeros (48 * (256 - length ls))
     rest-free =
-        ap (drop (48 * length ls)) (sym (register-sound .again area k v) ∙ placed-bytes 256 ls (loans-few area))
+        ap (drop (48 * length ls)) (sym placed-again ∙ placed-bytes 256 ls (loans-few places))
         ∙ drop-at (usedBytes ls) (zeros (48 * (256 - length ls))) (48 * length ls) (used-length ls (good .loans))
 
-    pub in-order : InOrder area (length ls)
+    pub in-order : InOrder places (length ls)
     in-order =
         record {
-          most = loans-few area;
+          most = loans-few places;
           first = used-byte;
           behind = rest-free;
           held = code-is;
@@ -95,25 +107,35 @@ module _ (area : List ℕ) (v : isRegister area ≡ true) where
 
     -- ---- an issue and a return
 
-    again : bytesOf ls ≡ area
-    again = register-sound .again area k v
-
-    pub issue-moved : (c : List ℕ) (b : ℕ) (place : ℕ) → length c ≤ 42 → Around c ls place place → length ls < 256
-        → bytesOf (put (loanOf c b) ls) ≡ putIn (48 * place) (48 * length ls) (placeBytes (some (loanOf c b))) area
+    pub issue-moved : (c : List ℕ) (b : ℕ) (place : ℕ) → IsCode c → Around c ls place place → length ls < 256
+        → bytesOf (put (loanOf c b) ls) ≡ oneMore (codeType c) (countsPart area) ++ putIn (48 * place) (48 * length ls) (placeBytes (some (loanOf c b))) places
     unfolding bytesOf
-    issue-moved c b place s a m =
-        ap (λ (ks : Contents). bytesOf ks) (put-between (loanOf c b) ls place a) ∙ issue-bytes ls (good .loans) place (loanOf c b) s (a .within) m
-        ∙ ap (putIn (48 * place) (48 * length ls) (placeBytes (some (loanOf c b)))) again
+    issue-moved c b place i a m =
+        let n : countsBytes (put (loanOf c b) ls) ≡ oneMore (codeType c) (countsPart area) =
+        counts-put (loanOf c b) ls ∙ sym (one-more (loanOf c b) ls (code-type c i .0) (loans-few places)) ∙ ap (oneMore (codeType c)) counted in
+        let p : placesBytes (placed 256 (put (loanOf c b) ls)) ≡ putIn (48 * place) (48 * length ls) (placeBytes (some (loanOf c b))) places =
+        ap (λ (ks : Contents). placesBytes (placed 256 ks)) (put-between (loanOf c b) ls place a)
+        ∙ issue-bytes ls (good .loans) place (loanOf c b) (i .most) (a .within) m
+        ∙ ap (putIn (48 * place) (48 * length ls) (placeBytes (some (loanOf c b)))) placed-again in
+        ap₂ (λ (x y : List ℕ). x ++ y) n p
 
-    pub return-moved : (c : List ℕ) (place : ℕ) → place < length ls → loanIn ls place .code ≡ c
-        → bytesOf (without c ls) ≡ takenOut (48 * place) 48 (48 * length ls) area
+    -- a code that is out is a code
+    pub out-code : (c : List ℕ) (place : ℕ) → place < length ls → loanIn ls place .code ≡ c → IsCode c
+    out-code c place h e = subst IsCode e (good-at ls place (good .loans) h .code)
+
+    pub return-moved : (c : List ℕ) (place : ℕ) → place < length ls → loanIn ls place .code ≡ c → isOut c ls ≡ true
+        → bytesOf (without c ls) ≡ oneLess (codeType c) (countsPart area) ++ takenOut (48 * place) 48 (48 * length ls) places
     unfolding bytesOf
-    return-moved c place h e =
-        ap (λ (ks : Contents). bytesOf ks) (without-at c ls place (contents-rising area v) h e) ∙ return-bytes ls (good .loans) place h (loans-few area)
-        ∙ ap (takenOut (48 * place) 48 (48 * length ls)) again
+    return-moved c place h e o =
+        let n : countsBytes (without c ls) ≡ oneLess (codeType c) (countsPart area) =
+        sym (one-less c ls o (code-type c (out-code c place h e) .0) (loans-few places)) ∙ ap (oneLess (codeType c)) counted in
+        let p : placesBytes (placed 256 (without c ls)) ≡ takenOut (48 * place) 48 (48 * length ls) places =
+        ap (λ (ks : Contents). placesBytes (placed 256 ks)) (without-at c ls place (contents-rising area v) h e)
+        ∙ return-bytes ls (good .loans) place h (loans-few places) ∙ ap (takenOut (48 * place) 48 (48 * length ls)) placed-again in
+        ap₂ (λ (x y : List ℕ). x ++ y) n p
 
-    issue-at : (c : List ℕ) (b : ℕ) → length c ≤ 42 → isOut c ls ≡ false → length ls < 256 → IssueMoves c b area (bytesOf (put (loanOf c b) ls)) (length ls)
-    issue-at c b s o m =
+    issue-at : (c : List ℕ) (b : ℕ) → IsCode c → isOut c ls ≡ false → length ls < 256 → IssueMoves c b area (bytesOf (put (loanOf c b) ls)) (length ls)
+    issue-at c b i o m =
         let a = not-found c o in
         record {
           place = searched c ls .place;
@@ -121,7 +143,7 @@ module _ (area : List ℕ) (v : isRegister area ≡ true) where
           room = m;
           earlier = λ j h. rw (code-is j (omega (arith, h, a .within))) (a .earlier j h);
           later = λ j h n. rw (code-is j n) (a .later j h n);
-          bytes = issue-moved c b (searched c ls .place) s a m;
+          bytes = issue-moved c b (searched c ls .place) i a m;
         }
 
     return-at : (c : List ℕ) → isOut c ls ≡ true → ReturnMoves c area (bytesOf (without c ls)) (length ls)
@@ -131,7 +153,7 @@ module _ (area : List ℕ) (v : isRegister area ≡ true) where
           place = searched c ls .place;
           within = f .0;
           code = code-is (searched c ls .place) (f .0) ∙ f .1;
-          bytes = return-moved c (searched c ls .place) (f .0) (f .1);
+          bytes = return-moved c (searched c ls .place) (f .0) (f .1) o;
         }
 
 -- ---- by texts
@@ -145,7 +167,7 @@ issue-moves t c b area area′ k f e =
     let q = passed (not (isOut c (contentsOf area))) alreadyOut _ (a .1) in
     let w = passed (ltb (length (contentsOf area)) 256) allOut _ (q .1) in
     subst (λ (d : List ℕ). IssueMoves c b area d (length (contentsOf area))) (ap bytesOf (accept-inj (w .1)) ∙ accept-inj (a .2))
-    (issue-at area (p .0) k c b (code-in t c f .most) (not-true (isOut c (contentsOf area)) (q .0)) (ltb-true (length (contentsOf area)) 256 (w .0)))
+    (issue-at area (p .0) k c b (code-in t c f) (not-true (isOut c (contentsOf area)) (q .0)) (ltb-true (length (contentsOf area)) 256 (w .0)))
 
 return-moves : (t c area area′ : List ℕ) → Below 256 area → codeBytes t ≡ accept c → returnText t area ≡ accept area′ → ReturnMoves c area area′ (length (contentsOf area))
 unfolding returned changedArea changeWith
@@ -169,7 +191,7 @@ looks-counted =
     }
   where
     nine : (x : Answer (List ℕ)) (area : List ℕ) (v : Bool) → reported (x >>= λ c. v otherwise notRegister >> accept (looks c (contentsOf area))) ≤ 9
-    nine (accept c) area true = nine-looks c (contentsOf area) (loans-few area)
+    nine (accept c) area true = nine-looks c (contentsOf area) (loans-few (placesPart area))
     nine (accept c) area false = omega arith
     nine (refuse q) area v = omega arith
 

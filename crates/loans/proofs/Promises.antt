@@ -23,7 +23,7 @@ use Rattle.loans.specs.Calls.{Call, issue, takeBack, ask, stateAfter, re
 use Rattle.loans.specs.Order.{put}
 use Rattle.loans.specs.Halving.{searched, borrowerFound, askedLoans}
 use Rattle.loans.specs.Register.{Register, changedArea, askedArea}
-use Rattle.loans.specs.Contents.{Contents, loansOf, contentsOf, isRegister, bytesOf, applied, register, emptyRegister}
+use Rattle.loans.specs.Contents.{Contents, placesPart, loansOf, contentsOf, isRegister, bytesOf, applied, register, emptyRegister}
 use Rattle.loans.specs.Good.{GoodContents, GoodCalls}
 use Rattle.loans.specs.RefusalOrder.{changeStages}
 use Rattle.loans.specs.Promises.{LoansRegister, StaysRegister, KeptWhereRefused, CallTests, CallNumbers, RoomAgain}
@@ -103,7 +103,7 @@ code-room c d b area area′ k e n =
     let v : isRegister area′ ≡ true = ap isRegister (sym z) ∙ register-sound .valid (without c ls) g in
     let h : contentsOf area′ ≡ without c ls = ap contentsOf (sym z) ∙ register-sound .back (without c ls) g in
     let w : suc (length (without c ls)) ≡ length ls = length-without c ls (q .0) in
-    let m : length ls ≤ 256 = loans-few area in
+    let m : length ls ≤ 256 = loans-few (placesPart area) in
     let i : length (contentsOf area′) ≡ length (without c ls) = ap length h in
     let r : ltb (length (contentsOf area′)) 256 ≡ true = lt-ltb (length (contentsOf area′)) 256 (omega arith) in
     let x : holderOf (find d (contentsOf area′)) ≡ refuse notOut = sym (asks-find d (contentsOf area′) (contents-rising area′ v)) ∙ (rw v at n) in

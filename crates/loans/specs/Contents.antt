@@ -1,11 +1,12 @@
--- The loans register: 256 places in order, which areas are one, and its three calls.
+-- The loans register: counts and 256 places in order, which areas are one, and its calls.
 use Prim.Native.Nat.{ℕ}
 use mathlib.Core.Bool.{Bool, _&&_}
-use mathlib.Core.List.{List}
-use lib.ListN.{length}
+use mathlib.Core.List.{List, _++_}
+use lib.ListN.{length, take, drop}
 use lib.Dec.{eqb}
 use Rattle.iscc.specs.Refusals.{notRegister}
 use Rattle.iscc.specs.Answer.{Answer, accept, refuse, _>>=_, _>>_, _otherwise_}
+use Rattle.iscc.specs.Lists.{sameBytes}
 use Rattle.iscc.specs.Doors.{codeBytes}
 use Rattle.loans.specs.Loan.{Loan, without}
 use Rattle.loans.specs.Map.{Change, changeWith}
@@ -13,6 +14,7 @@ use Rattle.loans.specs.Calls.{issued, returned, borrowerOf}
 use Rattle.loans.specs.Place.{zeros, placesBytes}
 use Rattle.loans.specs.Order.{placed, areOrdered, loansAt, put}
 use Rattle.loans.specs.Halving.{looks, askedLoans}
+use Rattle.loans.specs.Counts.{counts, countsBytes}
 use Rattle.loans.specs.Register.{Register, changedArea, askedArea}
 
 -- what a register holds: the loans, in rising order of their codes
@@ -22,15 +24,23 @@ Contents = List Loan
 abbrev pub loansOf : Contents → List Loan
 loansOf ls = ls
 
-abbrev pub contentsOf : List ℕ → Contents
-contentsOf area = loansAt area
+-- "16 bytes before the places": the two parts of an area
+abbrev pub countsPart : List ℕ → List ℕ
+countsPart area = take 16 area
 
--- 23 unless the area "has 12,288 bytes", and is 256 places in order
+abbrev pub placesPart : List ℕ → List ℕ
+placesPart area = take 12288 (drop 16 area)
+
+abbrev pub contentsOf : List ℕ → Contents
+contentsOf area = loansAt (placesPart area)
+
+-- 23 unless the area "has 12,304 bytes", its places are 256 in order, and the counts are theirs: "a disagreement is 23"
 unfoldable pub isRegister : List ℕ → Bool
-isRegister area = eqb (length area) 12288 && areOrdered area
+isRegister area =
+    eqb (length area) 12304 && areOrdered (placesPart area) && sameBytes (countsPart area) (countsBytes (loansAt (placesPart area)))
 
 unfoldable pub bytesOf : Contents → List ℕ
-bytesOf ls = placesBytes (placed 256 ls)
+bytesOf ls = countsBytes ls ++ placesBytes (placed 256 ls)
 
 -- "A return closes its gap.": a place is free only behind those that are used
 abbrev pub applied : Change → Contents → Answer Contents
@@ -41,7 +51,7 @@ register = record { valid = isRegister; contents = contentsOf; bytes = bytesOf; 
 
 -- "An empty register is an area of zeros."
 abbrev pub emptyRegister : List ℕ
-emptyRegister = zeros 12288
+emptyRegister = zeros 12304
 
 -- ---- the calls on a lent area: of an issue and a return the area afterwards, of a question the borrower
 
@@ -65,3 +75,10 @@ looksText t area = reported (do
   c ← codeBytes t
   isRegister area otherwise notRegister
   accept (looks c (loansOf (contentsOf area))))
+
+-- ---- how many codes are out, in all and by main type: 23, or the eight numbers
+
+unfoldable pub countsAsked : List ℕ → Answer (List ℕ)
+countsAsked area = do
+  isRegister area otherwise notRegister
+  accept (counts (loansOf (contentsOf area)))

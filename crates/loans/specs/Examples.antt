@@ -14,7 +14,9 @@ use Rattle.loans.specs.Map.{issueCode, returnCode}
 use Rattle.loans.specs.Place.{zeros, placeBytes, placesBytes, placeOf, isPlace}
 use Rattle.loans.specs.Order.{inOrder, placed}
 use Rattle.loans.specs.Halving.{searched}
+use Rattle.loans.specs.Counts.{codeType, inPairs, countsBytes}
 use Rattle.loans.specs.Contents.{applied}
+use Rattle.loans.specs.Moves.{oneMore, oneLess}
 use Rattle.loans.specs.Fields.{Field, fieldBytes}
 use Rattle.loans.specs.Log.{Record, Records, recordsFrom}
 use Rattle.loans.specs.Replay.{stopped, replayFrom}
@@ -98,6 +100,18 @@ pub record Examples : Type 0 where
   pub foundLast : searched id four ≡ record { looked = 2 ∷ 3 ∷ []; found = true; place = 3 }
   pub notFound : searched wideLabel four ≡ record { looked = 2 ∷ 3 ∷ []; found = false; place = 3 }
   pub noneOut : searched one [] ≡ record { looked = []; found = false; place = 0 }
+  -- main types: a META unit, a composite of a list of units, a wide one, an ID; and the sixteen bytes
+  pub typeOfUnit : codeType one ≡ 0
+  pub typeOfList : codeType label ≡ 5
+  pub typeOfWide : codeType wideLabel ≡ 5
+  pub typeOfId : codeType id ≡ 6
+  pub countedFour : countsBytes four ≡ 0 ∷ 4 ∷ 0 ∷ 2 ∷ zeros 8 ++ (0 ∷ 1 ∷ 0 ∷ 1 ∷ [])
+  pub countedNone : countsBytes [] ≡ zeros 16
+  pub highByteFirst : inPairs (258 ∷ []) ≡ 1 ∷ 2 ∷ []
+  pub oneMoreUnit : oneMore 0 (countsBytes four) ≡ 0 ∷ 5 ∷ 0 ∷ 3 ∷ zeros 8 ++ (0 ∷ 1 ∷ 0 ∷ 1 ∷ [])
+  pub oneLessId : oneLess 6 (countsBytes four) ≡ 0 ∷ 3 ∷ 0 ∷ 2 ∷ zeros 8 ++ (0 ∷ 1 ∷ 0 ∷ 0 ∷ [])
+  -- 255 and one more: the high byte moves
+  pub carried : oneMore 4 (0 ∷ 255 ∷ zeros 8 ++ (0 ∷ 255 ∷ zeros 4)) ≡ 1 ∷ 0 ∷ zeros 8 ++ (1 ∷ 0 ∷ zeros 4)
   -- one label in three spellings: separate units with a hyphen, small letters, units in the other order
   pub typedApart : codeBytes (ascii "GAAW2PRCRS5LNVZV-IAAUVACQKXE3V44W") ≡ accept label
   pub typedSmall : codeBytes (ascii "iscc:kuag2prcrs5lnvzvjkafavojxlzzm") ≡ accept label

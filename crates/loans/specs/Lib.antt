@@ -5,6 +5,7 @@ pub mod Calls
 pub mod Place
 pub mod Order
 pub mod Halving
+pub mod Counts
 pub mod Register
 pub mod Contents
 pub mod Good
@@ -22,5 +23,7 @@ pub mod PendingLog
 pub mod LogOrder
 pub mod Operations
 pub mod LogPromises
+pub mod CodesOut
+pub mod CountPromises
 pub mod WideLoans
 pub mod Examples

@@ -1,4 +1,7 @@
-// The layout of register and log. The register: 256 places of 48 bytes.
+// The layout of register and log. The register: counts, and behind them 256 places of 48 bytes.
+
+// The counts, in bytes: codes out, then codes out for each main type, two bytes each.
+pub const COUNTS_LENGTH: usize = 16;
 
 // How many places there are.
 pub const PLACES: usize = 256;
@@ -10,7 +13,7 @@ pub const PLACE_LENGTH: usize = 48;
 pub const PLACES_LENGTH: usize = 12288;
 
 // The whole register, in bytes.
-pub const REGISTER_LENGTH: usize = 12288;
+pub const REGISTER_LENGTH: usize = 12304;
 
 // The code's offset in a place, behind its length.
 pub const CODE_OFFSET: usize = 1;

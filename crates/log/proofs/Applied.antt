@@ -10,7 +10,7 @@ use borrow.Author.Tests.{ne-eqb}
 use Rattle.iscc.specs.Answer.{Answer, refuse, _>>_, _otherwise_}
 use Rattle.iscc.specs.Refusals.{notRecord}
 use Rattle.iscc.specs.Digits.{Below, value}
-use Rattle.iscc.proofs.Digits.{below-take, below-drop}
+use Rattle.iscc.proofs.Digits.{below-take}
 use Rattle.iscc.proofs.Parts.{rest-is}
 use Rattle.loans.specs.Loan.{oneCode}
 use Rattle.loans.specs.Map.{issueCode, returnCode}
@@ -49,8 +49,8 @@ module _ (body : List ℕ) (r : Bool) (e : r ≡ oneCode (take (length body - 4)
   tested : oneCode (drop 4 body) ≡ r
   tested = ap oneCode (sym (code-is body)) ∙ sym e
 
-  pub code-short : Below 256 body → r ≡ true → length (take (length body - 4) (drop 4 body)) ≤ 42
-  code-short bytes t = omega (arith, ap (λ (c : List ℕ). length c) (code-is body), is-code (drop 4 body) (below-drop 256 4 body bytes) (tested ∙ t) .most)
+  pub code-tested : r ≡ true → oneCode (take (length body - 4) (drop 4 body)) ≡ true
+  code-tested t = sym e ∙ t
 
 module _ (body area : List ℕ) where
   issue-is : appliedIssue body area ≡ (oneCode (drop 4 body) otherwise notRecord >> changedArea register (issueCode (drop 4 body) (value 8 (take 4 body))) area)

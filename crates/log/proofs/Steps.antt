@@ -199,7 +199,7 @@ module _ (log area₀ area : List ℕ) (offset : ℕ) (inv : Running log area₀
             within = size-fits;
             bytes = below-all 256 d (λ k _. db k);
             valid = g .valid;
-            size = register-known d (g .valid) .0 ∙ sym (register-known area (inv .valid) .0) ∙ inv .size;
+            size = register-known d (g .valid) .size ∙ sym (register-known area (inv .valid) .size) ∙ inv .size;
             same = inv .same ∙ ap (λ (x : replays.Replayed Contents). accept (inBytes register applyRecord x)) r;
           }
 

@@ -10,7 +10,6 @@ use crate::field;
 use iscc::refusal::Refusal;
 use register::answer::Changed;
 use register::check;
-use register::count;
 
 // How a replay ended. Numbers and offsets by the specification: `replayedNumber` and `replayedOffset` of
 // specs/Representation.antt.
@@ -44,14 +43,12 @@ fn run(log: &[u8], area: &mut [u8]) -> Replayed
     ensures area { λ _. ⌜ now (area .exit) ≡ areaReplayed (now (area .entry)) (replayLog (now (log .entry)) (now (area .entry))) ⌝ }
 {
     let mut offset = 0;
-    let mut used: usize = 0;
     while offset < log.len() {
         let size = field::whole_size(log, offset);
         if size == 0 {
             return Replayed::Torn(offset);
         }
-        used = count::codes_out_near(area, used);
-        let answer = apply::apply(&log[offset..offset + size], used, area);
+        let answer = apply::apply(&log[offset..offset + size], area);
         match answer {
             Changed::Done => {
                 offset += size;

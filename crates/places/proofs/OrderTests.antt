@@ -98,7 +98,7 @@ and-assoc : (a b c : Bool) → ((a && b) && c) ≡ (a && (b && c))
 and-assoc true b c = refl
 and-assoc false b c = refl
 
-zeros-apart : (xs ys : List ℕ) → allBelow 1 (xs ++ ys) ≡ (allBelow 1 xs && allBelow 1 ys)
+pub zeros-apart : (xs ys : List ℕ) → allBelow 1 (xs ++ ys) ≡ (allBelow 1 xs && allBelow 1 ys)
 unfolding allBelow
 zeros-apart [] ys = refl
 zeros-apart (x ∷ xs) ys = ap (λ (b : Bool). ltb x 1 && b) (zeros-apart xs ys) ∙ sym (and-assoc (ltb x 1) (allBelow 1 xs) (allBelow 1 ys))
@@ -117,7 +117,7 @@ module _ (bs : List ℕ) where
     unfolding isPlace
     free-test = rw (first-byte bs, eq-eqb (getD bs 0 0) 0 z)
 
-    free-place : placeOf (take 48 bs) ≡ none
+    pub free-place : placeOf (take 48 bs) ≡ none
     unfolding placeOf
     free-place = rw (first-byte bs, eq-eqb (getD bs 0 0) 0 z)
 

@@ -1,9 +1,9 @@
 -- A question, an issue and a return by their branches: where the search ended, and what was written.
-use Prim.Native.Nat.{ℕ, _+_, _*_, _≤_, _<_}
+use Prim.Native.Nat.{ℕ, suc, _+_, _*_, _≤_, _<_}
 use mathlib.Core.Path.{_≡_, refl, sym, _∙_, ap, ap₂, subst}
 use mathlib.Core.Bool.{Bool, true, false, cond}
 use mathlib.Core.Option.{none, some}
-use mathlib.Core.List.{List}
+use mathlib.Core.List.{List, _++_}
 use native.Mathlib.Omega.{arith}
 use lib.ListN.{length, take, drop}
 use lib.Dec.{ltb}
@@ -11,19 +11,24 @@ use borrow.Author.Tests.{lt-ltb, le-ltb}
 use Rattle.iscc.specs.Answer.{Answer}
 use Rattle.iscc.specs.Digits.{Below, value}
 use Rattle.iscc.specs.Refusals.{alreadyOut, allOut, notOut}
-use Rattle.loans.specs.Loan.{loanOf, isOut, without}
+use Rattle.loans.specs.Loan.{loanOf, oneCode, isOut, without}
 use Rattle.loans.specs.Map.{issueCode, returnCode, changeWith, holderOf}
 use Rattle.loans.specs.Place.{placeBytes}
-use Rattle.loans.specs.Order.{areOrdered, loansAt, put}
+use Rattle.loans.specs.Order.{areOrdered, put}
 use Rattle.loans.specs.Halving.{loanIn, searched, looks}
 use Rattle.loans.specs.Calls.{afterwards}
 use Rattle.loans.specs.Register.{changedArea, askedArea}
-use Rattle.loans.specs.Contents.{Contents, contentsOf, isRegister, bytesOf, register}
-use Rattle.loans.specs.Moves.{putIn, takenOut}
+use Rattle.loans.specs.Contents.{Contents, countsPart, placesPart, contentsOf, isRegister, bytesOf, register}
+use Rattle.loans.specs.Counts.{codeType}
+use Rattle.loans.specs.Good.{IsCode}
+use Rattle.loans.specs.Moves.{putIn, takenOut, numberAt, oneMore, oneLess}
+use Rattle.loans.proofs.Loan.{is-code}
+use Rattle.loans.proofs.Counts.{number-some}
+use Rattle.loans.proofs.CodeType.{code-type}
 use Rattle.loans.proofs.OrderedPlaces.{loans-few, borrower-is}
 use Rattle.loans.proofs.Halving.{Around, search-out}
 use Rattle.loans.proofs.Contents.{register-known, contents-rising}
-use Rattle.loans.proofs.OrderPromises.{not-found, is-found, issue-moved, return-moved}
+use Rattle.loans.proofs.OrderPromises.{not-found, is-found, out-code, issue-moved, return-moved}
 use Rattle.register.specs.declared.answer.Changed.{Changed}
 use Rattle.register.specs.declared.answer.Changed.the-variants as changes
 use Rattle.register.specs.declared.answer.Holder.{Holder}
@@ -36,20 +41,23 @@ use Rattle.register.specs.Representation.{holderAs, askedAs, changedAs}
 abbrev pub Told : Answer (List ℕ) → List ℕ → Changed → List ℕ → Type 0
 Told x area y d = (y ≡ changedAs x) × (d ≡ afterwards area x)
 
-pub size-known : (area : List ℕ) → isRegister area ≡ true → length area ≡ 12288
-size-known area v = register-known area v .0
+pub size-known : (area : List ℕ) → isRegister area ≡ true → length area ≡ 12304
+size-known area v = register-known area v .size
 
-pub used-few : (area : List ℕ) (u : ℕ) → u ≡ length (loansAt area) → u ≤ 256
-used-few area u n = omega (arith, n, loans-few area)
+pub places-size : (area : List ℕ) → isRegister area ≡ true → length (take 12288 (drop 16 area)) ≡ 12288
+places-size area v = register-known area v .placesSize
 
-pub room-left : (area : List ℕ) (u : ℕ) → u ≡ length (loansAt area) → (u ≡ 256 → ⊥) → u < 256
+pub used-few : (area : List ℕ) (u : ℕ) → u ≡ length (contentsOf area) → u ≤ 256
+used-few area u n = omega (arith, n, loans-few (placesPart area))
+
+pub room-left : (area : List ℕ) (u : ℕ) → u ≡ length (contentsOf area) → (u ≡ 256 → ⊥) → u < 256
 room-left area u n h = omega (arith, h, used-few area u n)
 
-pub search-known : (area : List ℕ) (u : ℕ) → isRegister area ≡ true → u ≡ length (loansAt area)
-    → (length area ≡ 12288) × (areOrdered area ≡ true) × (u ≡ length (loansAt area))
-search-known area u v n = let p = register-known area v in (p .0, p .1, n)
+pub search-known : (area : List ℕ) (u : ℕ) → isRegister area ≡ true → u ≡ length (contentsOf area)
+    → (length (placesPart area) ≡ 12288) × (areOrdered (placesPart area) ≡ true) × (u ≡ length (contentsOf area))
+search-known area u v n = let p = register-known area v in (p .placesSize, p .ordered, n)
 
-module _ (c area : List ℕ) (v : isRegister area ≡ true) (f : Found) (e : f ≡ foundAs (searched c (loansAt area))) where
+module _ (c area : List ℕ) (v : isRegister area ≡ true) (f : Found) (e : f ≡ foundAs (searched c (contentsOf area))) where
   abbrev ls : Contents
   ls = contentsOf area
 
@@ -66,17 +74,23 @@ module _ (c area : List ℕ) (v : isRegister area ≡ true) (f : Found) (e : f �
     found-code : (f .place < length ls) × (loanIn ls (f .place) .code ≡ c)
     found-code = let w = is-found area v c (is-out ∙ y) in (omega (arith, w .0, place-is), ap (λ (k : ℕ). loanIn ls k .code) place-is ∙ w .1)
 
-    pub found-used : (u : ℕ) → u ≡ length (loansAt area) → f .place < u
-    found-used u n = omega (arith, n, found-code .0)
-
     pub found-few : f .place < 256
-    found-few = omega (arith, found-code .0, loans-few area)
+    found-few = omega (arith, found-code .0, loans-few (placesPart area))
+
+    -- what a return of it asks for: a code that is out is counted
+    pub take-known : Below 256 area → (u : ℕ) → u ≡ length (contentsOf area)
+        → (length area ≡ 12304) × (oneCode c ≡ true) × (f .place < u) × (u ≤ 256) × (0 < numberAt 0 (countsPart area)) × (0 < numberAt (suc (codeType c)) (countsPart area))
+    take-known k u n =
+        let i : IsCode c = out-code area v k c (f .place) (found-code .0) (found-code .1) in
+        let s = number-some c ls (is-out ∙ y) (code-type c i .0) (loans-few (placesPart area)) in
+        let w = subst (λ (bs : List ℕ). (0 < numberAt 0 bs) × (0 < numberAt (suc (codeType c)) bs)) (sym (register-known area v .counted)) s in
+        (size-known area v, i .one, omega (arith, n, found-code .0), used-few area u n, w .0, w .1)
 
   module _ (y : f .found ≡ false) where
     around : Around c ls (f .place) (f .place)
     around = subst (λ (k : ℕ). Around c ls k k) (sym place-is) (not-found area v c (is-out ∙ y))
 
-    pub room-within : (u : ℕ) → u ≡ length (loansAt area) → f .place ≤ u
+    pub room-within : (u : ℕ) → u ≡ length (contentsOf area) → f .place ≤ u
     room-within u n = omega (arith, n, around .within)
 
   -- ---- a question
@@ -92,11 +106,11 @@ module _ (c area : List ℕ) (v : isRegister area ≡ true) (f : Found) (e : f �
   pub asked-none : f .found ≡ false → record { holder = holders.Refused notOut; looks = f .looks } ≡ askedAs (askedArea register c area) (looks c ls)
   asked-none y = asked-is (holders.Refused notOut) (sym (ap holderAs (asked-by false y)))
 
-  pub asked-yes : f .found ≡ true → (b : ℕ) → b ≡ value 8 (take 4 (drop (48 * f .place + 44) area))
+  pub asked-yes : f .found ≡ true → (b : ℕ) → b ≡ value 8 (take 4 (drop (48 * f .place + 44) (placesPart area)))
       → record { holder = holders.Borrower b; looks = f .looks } ≡ askedAs (askedArea register c area) (looks c ls)
   asked-yes y b w =
       let p = register-known area v in
-      let q : loanIn ls (f .place) .borrower ≡ b = borrower-is area (p .1) (p .0) (f .place) (found-code y .0) ∙ sym w in
+      let q : loanIn ls (f .place) .borrower ≡ b = borrower-is (placesPart area) (p .ordered) (p .placesSize) (f .place) (found-code y .0) ∙ sym w in
       asked-is (holders.Borrower b) (sym (ap holderAs (asked-by true y) ∙ ap (λ (x : ℕ). holders.Borrower x) q))
 
   -- ---- a return
@@ -108,13 +122,14 @@ module _ (c area : List ℕ) (v : isRegister area ≡ true) (f : Found) (e : f �
   unfolding changedArea changeWith
   return-none y = let o : isOut c ls ≡ false = is-out ∙ y in rw (v, o) (refl, refl)
 
-  pub return-done : f .found ≡ true → Below 256 area → (u : ℕ) → u ≡ length (loansAt area) → (d : List ℕ) → d ≡ takenOut (48 * f .place) 48 (48 * u) area
-      → Returned changes.Done d
+  pub return-done : f .found ≡ true → Below 256 area → (u : ℕ) → u ≡ length (contentsOf area) → (d : List ℕ)
+      → d ≡ oneLess (codeType c) (countsPart area) ++ takenOut (48 * f .place) 48 (48 * u) (placesPart area) → Returned changes.Done d
   unfolding changedArea changeWith
   return-done y k u n d w =
       let o : isOut c ls ≡ true = is-out ∙ y in
       let q : d ≡ bytesOf (without c ls) =
-      w ∙ ap (λ (j : ℕ). takenOut (48 * f .place) 48 (48 * j) area) n ∙ sym (return-moved area v k c (f .place) (found-code y .0) (found-code y .1)) in
+      w ∙ ap (λ (j : ℕ). oneLess (codeType c) (countsPart area) ++ takenOut (48 * f .place) 48 (48 * j) (placesPart area)) n
+      ∙ sym (return-moved area v k c (f .place) (found-code y .0) (found-code y .1) o) in
       rw (v, o) (refl, q)
 
   -- ---- an issue
@@ -127,7 +142,7 @@ module _ (c area : List ℕ) (v : isRegister area ≡ true) (f : Found) (e : f �
     unfolding changedArea changeWith
     issue-out y = let o : isOut c ls ≡ true = is-out ∙ y in rw (v, o) (refl, refl)
 
-    module _ (y : f .found ≡ false) (u : ℕ) (n : u ≡ length (loansAt area)) where
+    module _ (y : f .found ≡ false) (u : ℕ) (n : u ≡ length (contentsOf area)) where
       still-in : isOut c ls ≡ false
       still-in = is-out ∙ y
 
@@ -135,12 +150,13 @@ module _ (c area : List ℕ) (v : isRegister area ≡ true) (f : Found) (e : f �
       unfolding changedArea changeWith
       issue-full h = let o : ltb (length ls) 256 ≡ false = le-ltb (length ls) 256 (omega (arith, n, h)) in rw (v, still-in, o) (refl, refl)
 
-      pub issue-done : (u ≡ 256 → ⊥) → Below 256 area → length c ≤ 42 → (s d : List ℕ) → s ≡ placeBytes (some (loanOf c b)) → d ≡ putIn (48 * f .place) (48 * u) s area
-          → Issued changes.Done d
+      pub issue-done : (u ≡ 256 → ⊥) → Below 256 area → Below 256 c → oneCode c ≡ true → (d : List ℕ)
+          → d ≡ oneMore (codeType c) (countsPart area) ++ putIn (48 * f .place) (48 * u) (placeBytes (some (loanOf c b))) (placesPart area) → Issued changes.Done d
       unfolding changedArea changeWith
-      issue-done h k m s d p w =
-          let l : length ls < 256 = omega (arith, n, h, loans-few area) in
+      issue-done h k cb one d w =
+          let l : length ls < 256 = omega (arith, n, h, loans-few (placesPart area)) in
           let o : ltb (length ls) 256 ≡ true = lt-ltb (length ls) 256 l in
           let q : d ≡ bytesOf (put (loanOf c b) ls) =
-          w ∙ ap₂ (λ (j : ℕ) (x : List ℕ). putIn (48 * f .place) (48 * j) x area) n p ∙ sym (issue-moved area v k c b (f .place) m (around y) l) in
+          w ∙ ap (λ (j : ℕ). oneMore (codeType c) (countsPart area) ++ putIn (48 * f .place) (48 * j) (placeBytes (some (loanOf c b))) (placesPart area)) n
+          ∙ sym (issue-moved area v k c b (f .place) (is-code c cb one) (around y) l) in
           rw (v, still-in, o) (refl, q)

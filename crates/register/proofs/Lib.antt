@@ -1,5 +1,4 @@
 -- The laws that carry the definitions of `loans` to loops and branches.
 pub mod Areas
-pub mod Counting
 pub mod Changes
 pub mod Texts

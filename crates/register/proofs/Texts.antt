@@ -13,6 +13,7 @@ use Rattle.iscc.specs.declared.code.CodeAnswer.the-variants as coded
 use Rattle.iscc.proofs.Answer.{passed, answered, accept-inj, refuse-inj, never}
 use Rattle.door.specs.Codes.{codeDetail}
 use Rattle.door.proofs.Answers.{code-held, code-not}
+use Rattle.loans.specs.Loan.{oneCode}
 use Rattle.loans.proofs.Loan.{code-in}
 use Rattle.loans.specs.Map.{Change, issueCode, returnCode}
 use Rattle.loans.specs.Calls.{issued, returned, borrowerOf, afterwards}
@@ -154,8 +155,8 @@ module _ (t area : List ℕ) (k : ℕ) (r : CodeRead) (of : r ≡ codeReadAs k (
     pub is-register : isRegister area ≡ true
     is-register = bound .1
 
-    pub code-short : length code ≤ 42
-    code-short = code-in t code (bound .0) .most
+    pub one-code : oneCode code ≡ true
+    one-code = code-in t code (bound .0) .one
 
     by-code : {A : Type 0} (f : List ℕ → Answer A) → (codeBytes t >>= f) ≡ f code
     by-code f = ap (λ (x : Answer (List ℕ)). x >>= f) (bound .0)

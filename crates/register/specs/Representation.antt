@@ -1,10 +1,12 @@
 -- The answers in the code, and the lent area after a change.
 use Prim.Native.Nat.{ℕ}
 use mathlib.Core.List.{List}
+use lib.ListN.{getD}
 use Rattle.iscc.specs.Answer.{Answer, accept, refuse}
 use Rattle.register.specs.declared.answer.Asked.{Asked}
 use Rattle.register.specs.declared.answer.Changed.{Changed}
 use Rattle.register.specs.declared.answer.Changed.the-variants as changes
+use Rattle.register.specs.declared.answer.Counts.{Counts}
 use Rattle.register.specs.declared.answer.Holder.{Holder}
 use Rattle.register.specs.declared.answer.Holder.the-variants as holders
 
@@ -40,3 +42,19 @@ changedAs (refuse q) = changes.Refused q
 abbrev pub changedNumber : Changed → ℕ
 changedNumber changes.Done = 0
 changedNumber (changes.Refused q) = q .number
+
+-- how many codes are out: the eight numbers, each by its main type's name; a refusal has zeros
+abbrev pub countsAs : Answer (List ℕ) → Counts
+countsAs (accept ns) =
+    record {
+      number = 0;
+      out = getD ns 0 0;
+      meta = getD ns 1 0;
+      semantic = getD ns 2 0;
+      content = getD ns 3 0;
+      «data» = getD ns 4 0;
+      instance = getD ns 5 0;
+      iscc = getD ns 6 0;
+      id = getD ns 7 0;
+    }
+countsAs (refuse q) = record { number = q .number; out = 0; meta = 0; semantic = 0; content = 0; «data» = 0; instance = 0; iscc = 0; id = 0 }

@@ -32,3 +32,17 @@ pub struct Asked {
     pub holder: Holder,
     pub looks: u32,
 }
+
+// How many codes are out, in all and by main type, with number 0; or a refusal and zeros. It is what C gets, too.
+#[repr(C)]
+pub struct Counts {
+    pub number: u32,
+    pub out: u32,
+    pub meta: u32,
+    pub semantic: u32,
+    pub content: u32,
+    pub data: u32,
+    pub instance: u32,
+    pub iscc: u32,
+    pub id: u32,
+}

@@ -1,16 +1,20 @@
-// The register's calls by a typed text: the numbers of the text come first, then 23, then the register's own.
+// The register's calls. By a typed text: the numbers of the text come first, then 23, then the register's own; and its counts.
 ghost use mathlib.Core.Path.{_≡_};
 ghost use Prim.Native.Nat.{_≤_};
 ghost use Rattle.iscc.specs.Answer.{numberOf};
 ghost use Rattle.loans.specs.Calls.{afterwards};
-ghost use Rattle.loans.specs.Contents.{issueText, returnText, askText, looksText};
-ghost use Rattle.register.specs.Representation.{askedAs, holderNumber, holderBorrower, borrowerIn, changedAs, changedNumber};
+ghost use Rattle.loans.specs.Contents.{issueText, returnText, askText, looksText, countsAsked};
+ghost use Rattle.register.specs.Representation.{askedAs, holderNumber, holderBorrower, borrowerIn, changedAs, changedNumber, countsAs};
 use crate::admit::admit;
 use crate::answer::Asked;
 use crate::answer::Changed;
+use crate::answer::Counts;
 use crate::answer::Holder;
 use crate::change;
+use crate::check;
+use crate::count;
 use iscc::code::CodeAnswer;
+use iscc::refusal::Refusal;
 
 // Issues the code that the text holds: 2, 1, 3 to 14, then 23, 20, 21.
 pub fn issue(text: &[u8], borrower: u32, area: &mut [u8]) -> Changed
@@ -61,5 +65,26 @@ pub fn ask(text: &[u8], area: &[u8]) -> Asked
             holder: Holder::Refused(q),
             looks: 0,
         },
+    }
+}
+
+// How many codes are out, in all and by main type: 23.
+pub fn counts(area: &[u8]) -> Counts
+    ensures { λ r. ⌜ r ≡ countsAs (countsAsked (now (area .entry))) ⌝ }
+{
+    if check::is_register(area) {
+        return count::all(area);
+    }
+    let refusal = Refusal::NOT_REGISTER;
+    Counts {
+        number: refusal.number,
+        out: 0,
+        meta: 0,
+        semantic: 0,
+        content: 0,
+        data: 0,
+        instance: 0,
+        iscc: 0,
+        id: 0,
     }
 }

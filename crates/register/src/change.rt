@@ -1,73 +1,89 @@
 // An issue, a return and a question by a code's bytes, on an area that is known to be a register.
 ghost use mathlib.Core.Path.{_≡_};
 ghost use mathlib.Core.Bool.{true};
-ghost use Prim.Native.Nat.{_≤_};
+ghost use mathlib.Core.Option.{some};
+ghost use mathlib.Core.List.{_++_};
+ghost use Prim.Native.Nat.{suc, _*_, _≤_, _<_};
 ghost use lib.ListN.{length};
+ghost use Rattle.loans.specs.Loan.{loanOf, oneCode};
 ghost use Rattle.loans.specs.Map.{issueCode, returnCode};
+ghost use Rattle.loans.specs.Place.{placeBytes};
 ghost use Rattle.loans.specs.Register.{changedArea, askedArea};
 ghost use Rattle.loans.specs.Calls.{afterwards};
 ghost use Rattle.loans.specs.Halving.{looks};
-ghost use Rattle.loans.specs.Contents.{isRegister, contentsOf, loansOf, register};
+ghost use Rattle.loans.specs.Counts.{codeType};
+ghost use Rattle.loans.specs.Contents.{countsPart, placesPart, isRegister, contentsOf, loansOf, register};
+ghost use Rattle.loans.specs.Moves.{putIn, takenOut, numberAt, oneMore, oneLess};
 ghost use Rattle.register.specs.Representation.{askedAs, changedAs};
 use crate::answer::Asked;
 use crate::answer::Changed;
 use crate::answer::Holder;
 use crate::count;
 use iscc::refusal::Refusal;
+use loans::layout::COUNTS_LENGTH;
 use loans::layout::PLACES;
+use loans::layout::REGISTER_LENGTH;
+use places::code::main_type;
+use places::counts;
 use places::moves;
 use places::place;
 use places::search::search;
 
-// The code goes to the borrower, at its place in the order: 20, then 21. `used` is how many codes are out.
-pub fn issue_counted(code: &[u8], borrower: u32, used: usize, area: &mut [u8]) -> Changed
-    requires { ⌜ (isRegister (now area) ≡ true) × (used ≡ length (loansOf (contentsOf (now area)))) × (length (now code) ≤ 42) ⌝ }
+// A loan is put in, and counted.
+fn put(code: &[u8], borrower: u32, place: usize, used: usize, area: &mut [u8])
+    requires { ⌜ (length (now area) ≡ 12304) × (oneCode (now code) ≡ true) × (place ≤ used) × (used < 256) ⌝ }
+    ensures { λ _. ⌜ now (area .exit) ≡ oneMore (codeType (now (code .entry))) (countsPart (now (area .entry))) ++ putIn (48 * place) (48 * used) (placeBytes (some (loanOf (now (code .entry)) borrower))) (placesPart (now (area .entry))) ⌝ }
+{
+    let loan = place::place_of(code, borrower);
+    moves::insert(
+        &mut area[COUNTS_LENGTH..REGISTER_LENGTH],
+        place,
+        used,
+        &loan,
+    );
+    counts::one_more(&mut area[0..COUNTS_LENGTH], main_type(code));
+}
+
+// A loan is taken out, and one less is counted.
+fn take(code: &[u8], place: usize, used: usize, area: &mut [u8])
+    requires { ⌜ (length (now area) ≡ 12304) × (oneCode (now code) ≡ true) × (place < used) × (used ≤ 256) × (0 < numberAt 0 (countsPart (now area))) × (0 < numberAt (suc (codeType (now code))) (countsPart (now area))) ⌝ }
+    ensures { λ _. ⌜ now (area .exit) ≡ oneLess (codeType (now (code .entry))) (countsPart (now (area .entry))) ++ takenOut (48 * place) 48 (48 * used) (placesPart (now (area .entry))) ⌝ }
+{
+    moves::remove(&mut area[COUNTS_LENGTH..REGISTER_LENGTH], place, used);
+    counts::one_less(&mut area[0..COUNTS_LENGTH], main_type(code));
+}
+
+// The code goes to the borrower, at its place in the order: 20, then 21.
+pub fn issue(code: &[u8], borrower: u32, area: &mut [u8]) -> Changed
+    requires { ⌜ (isRegister (now area) ≡ true) × (oneCode (now code) ≡ true) ⌝ }
     ensures answer { λ r. ⌜ r ≡ changedAs (changedArea register (issueCode (now (code .entry)) borrower) (now (area .entry))) ⌝ }
     ensures area { λ _. ⌜ now (area .exit) ≡ afterwards (now (area .entry)) (changedArea register (issueCode (now (code .entry)) borrower) (now (area .entry))) ⌝ }
 {
-    let at = search(area, used, code);
+    let used = count::codes_out(area);
+    let at = search(&area[COUNTS_LENGTH..REGISTER_LENGTH], used, code);
     if at.found {
         return Changed::Refused(Refusal::ALREADY_OUT);
     }
     if used == PLACES {
         return Changed::Refused(Refusal::ALL_OUT);
     }
-    let loan = place::place_of(code, borrower);
-    moves::insert(area, at.place, used, &loan);
+    put(code, borrower, at.place, used, area);
     Changed::Done
 }
 
-// The code is taken back, and its gap closed: 22. `used` is how many codes are out.
-pub fn take_back_counted(code: &[u8], used: usize, area: &mut [u8]) -> Changed
-    requires { ⌜ (isRegister (now area) ≡ true) × (used ≡ length (loansOf (contentsOf (now area)))) ⌝ }
-    ensures answer { λ r. ⌜ r ≡ changedAs (changedArea register (returnCode (now (code .entry))) (now (area .entry))) ⌝ }
-    ensures area { λ _. ⌜ now (area .exit) ≡ afterwards (now (area .entry)) (changedArea register (returnCode (now (code .entry))) (now (area .entry))) ⌝ }
-{
-    let at = search(area, used, code);
-    if at.found {
-        moves::remove(area, at.place, used);
-        return Changed::Done;
-    }
-    Changed::Refused(Refusal::NOT_OUT)
-}
-
-// The same, where nobody has counted.
-pub(crate) fn issue(code: &[u8], borrower: u32, area: &mut [u8]) -> Changed
-    requires { ⌜ (isRegister (now area) ≡ true) × (length (now code) ≤ 42) ⌝ }
-    ensures answer { λ r. ⌜ r ≡ changedAs (changedArea register (issueCode (now (code .entry)) borrower) (now (area .entry))) ⌝ }
-    ensures area { λ _. ⌜ now (area .exit) ≡ afterwards (now (area .entry)) (changedArea register (issueCode (now (code .entry)) borrower) (now (area .entry))) ⌝ }
-{
-    let used = count::codes_out(area);
-    issue_counted(code, borrower, used, area)
-}
-
-pub(crate) fn take_back(code: &[u8], area: &mut [u8]) -> Changed
+// The code is taken back, and its gap closed: 22.
+pub fn take_back(code: &[u8], area: &mut [u8]) -> Changed
     requires { ⌜ isRegister (now area) ≡ true ⌝ }
     ensures answer { λ r. ⌜ r ≡ changedAs (changedArea register (returnCode (now (code .entry))) (now (area .entry))) ⌝ }
     ensures area { λ _. ⌜ now (area .exit) ≡ afterwards (now (area .entry)) (changedArea register (returnCode (now (code .entry))) (now (area .entry))) ⌝ }
 {
     let used = count::codes_out(area);
-    take_back_counted(code, used, area)
+    let at = search(&area[COUNTS_LENGTH..REGISTER_LENGTH], used, code);
+    if at.found {
+        take(code, at.place, used, area);
+        return Changed::Done;
+    }
+    Changed::Refused(Refusal::NOT_OUT)
 }
 
 // Who has the code: 22. The looks of the search are told with both.
@@ -76,9 +92,10 @@ pub(crate) fn ask(code: &[u8], area: &[u8]) -> Asked
     ensures { λ r. ⌜ r ≡ askedAs (askedArea register (now (code .entry)) (now (area .entry))) (looks (now (code .entry)) (loansOf (contentsOf (now (area .entry))))) ⌝ }
 {
     let used = count::codes_out(area);
-    let at = search(area, used, code);
+    let places = &area[COUNTS_LENGTH..REGISTER_LENGTH];
+    let at = search(places, used, code);
     if at.found {
-        let borrower = place::borrower(area, at.place);
+        let borrower = place::borrower(places, at.place);
         return Asked {
             holder: Holder::Borrower(borrower),
             looks: at.looks,

@@ -1,6 +1,7 @@
 // Whether an area is a register: 23 where it is not.
 ghost use mathlib.Core.Path.{_≡_};
 ghost use Rattle.loans.specs.Contents.{isRegister};
+use loans::layout::COUNTS_LENGTH;
 use loans::layout::REGISTER_LENGTH;
 use places::order;
 
@@ -10,5 +11,8 @@ pub fn is_register(area: &[u8]) -> bool
     if area.len() != REGISTER_LENGTH {
         return false;
     }
-    order::are_ordered(area)
+    order::are_counted(
+        &area[0..COUNTS_LENGTH],
+        &area[COUNTS_LENGTH..REGISTER_LENGTH],
+    )
 }

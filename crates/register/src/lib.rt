@@ -1,4 +1,4 @@
-// The loans register in a lent area: whether an area is one, and its three calls.
+// The loans register in a lent area: whether an area is one, and its calls.
 mod admit;
 pub mod answer;
 pub mod calls;

@@ -8,7 +8,7 @@ returns : tie.Need-returns
 returns c =
     let returned = c .before .before in
     let tested = returned .before .before .before in
-    return-told _ _ _ (tested .is-code .ensures) (returned .before .before .if1 .taken) _ _ (returned .take-back-counted .ensures)
+    return-told _ _ _ (tested .is-code .ensures) (returned .before .before .if1 .taken) _ _ (returned .take-back .ensures)
 
 returns-2 : tie.Need-returns-2
 returns-2 c = return-none _ _ _ (c .before .is-code .ensures) (c .if1 .left)

@@ -1,7 +1,6 @@
 -- `replay::run` meets its contract. The loop's invariant: the records before the offset are applied.
-use Prim.Native.Nat.{_-_, _≤_}
+use Prim.Native.Nat.{_-_}
 use lib.ListN.{length}
-use native.Mathlib.Omega.{arith}
 use borrow.Author.Needs.{needs}
 use Rattle.iscc.proofs.Digits.{below-all}
 use Rattle.log.proofs.Steps.{Running, at-start, ran-out, torn-there, size-fits, part-whole, stopped-there, one-more}
@@ -9,63 +8,54 @@ use Rattle.log.proofs.replay.run.Statement.{statement}
 use Rattle.log.proofs.replay.run.Tie as tie
 
 abbrev Inv-loop : tie.InvT-loop
-Inv-loop log area₀ offset₀ used₀ area offset used = Running log area₀ area offset × (used ≤ 256)
+Inv-loop log area₀ offset₀ area offset = Running log area₀ area offset
 
 abbrev μ-loop : tie.MeasureT-loop
-μ-loop log area₀ offset₀ used₀ area offset used = length log - offset
+μ-loop log area₀ offset₀ area offset = length log - offset
 
 loop-holds : tie.Need-loop-holds Inv-loop μ-loop
-loop-holds c = (at-start _ _ (below-all 256 (c .before .before .args .area .now) (λ k _. c .slice-known .given k .fits)) (c .before .before .pre), omega arith)
+loop-holds c = at-start _ _ (below-all 256 (c .before .before .args .area .now) (λ k _. c .slice-known .given k .fits)) (c .before .before .pre)
 
 returns : tie.Need-returns Inv-loop μ-loop
-returns c = torn-there _ _ _ _ (c .before .before .before .loop .inv .0) (c .before .before .loop-test .taken) _ (c .before .whole-size .ensures) (c .if1 .taken)
-
-codes-out-near-requires : tie.Need-codes-out-near-requires Inv-loop μ-loop
-codes-out-near-requires c κs = let inv = c .before .before .before .before .loop .inv in (inv .0 .valid, inv .1)
+returns c = torn-there _ _ _ _ (c .before .before .before .loop .inv) (c .before .before .loop-test .taken) _ (c .before .whole-size .ensures) (c .if1 .taken)
 
 add-apply : tie.Need-add-apply Inv-loop μ-loop
 add-apply c =
-    let read = c .before .before .before in
-    let fits = size-fits _ _ _ _ (read .before .before .loop .inv .0) _ (read .whole-size .ensures) (c .before .before .if1 .left) in
+    let fits = size-fits _ _ _ _ (c .before .before .before .loop .inv) _ (c .before .whole-size .ensures) (c .if1 .left) in
     search (needs, fits)
 
 apply-requires : tie.Need-apply-requires Inv-loop μ-loop
 apply-requires c κs =
-    let counted = c .before .before in
-    let read = counted .before .before .before in
-    let inv = read .before .before .loop .inv .0 in
-    (part-whole _ _ _ _ inv _ (read .whole-size .ensures) (counted .before .before .if1 .left), inv .valid, counted .codes-out-near .ensures .0)
+    let read = c .before .before .before in
+    let inv = read .before .before .loop .inv in
+    (part-whole _ _ _ _ inv _ (read .whole-size .ensures) (c .before .before .if1 .left), inv .valid)
 
 add-offset : tie.Need-add-offset Inv-loop μ-loop
 add-offset c =
-    let some = c .before .before .before .before .before .before .before .before .before in
-    let read = some .before in
-    let fits = size-fits _ _ _ _ (read .before .before .loop .inv .0) _ (read .whole-size .ensures) (some .if1 .left) in
+    let read = c .before .before .before .before .before .before .before .before in
+    let some = c .before .before .before .before .before .before .before .if1 .left in
+    let fits = size-fits _ _ _ _ (read .before .before .loop .inv) _ (read .whole-size .ensures) some in
     search (needs, fits)
 
 loop-again : tie.Need-loop-again Inv-loop μ-loop
 loop-again c =
     let known = c .before .before in
     let applied = known .before .before in
-    let counted = applied .before .before .before in
-    let read = counted .before .before .before in
+    let read = applied .before .before .before .before in
     let start = read .before .before .before .before in
-    let log = below-all 256 (start .before .args .log .now) (λ k _. start .shared-slice-known .given k .fits) in (
-      one-more _ _ _ _ (read .before .before .loop .inv .0) _ (read .whole-size .ensures) (counted .before .before .if1 .left) _ _ (applied .apply .ensures)
-          log (λ k. known .slice-known2 .given k .fits) (c .enum-told .given .1),
-      counted .codes-out-near .ensures .1,
-    )
+    let log = below-all 256 (start .before .args .log .now) (λ k _. start .shared-slice-known .given k .fits) in
+    one-more _ _ _ _ (read .before .before .loop .inv) _ (read .whole-size .ensures) (applied .before .before .before .if1 .left) _ _ (applied .apply .ensures)
+    log (λ k. known .slice-known2 .given k .fits) (c .enum-told .given .1)
 
 returns-2 : tie.Need-returns-2 Inv-loop μ-loop
 returns-2 c =
     let applied = c .before .before .before .before .before in
-    let some = applied .before .before .before .before .before in
-    let read = some .before in
-    stopped-there _ _ _ _ (read .before .before .loop .inv .0) _ (read .whole-size .ensures) (some .if1 .left) _ _ (applied .apply .ensures)
+    let read = applied .before .before .before .before in
+    stopped-there _ _ _ _ (read .before .before .loop .inv) _ (read .whole-size .ensures) (applied .before .before .before .if1 .left) _ _ (applied .apply .ensures)
     _ (c .before .answer .given .1)
 
 returns-3 : tie.Need-returns-3 Inv-loop μ-loop
-returns-3 c = ran-out _ _ _ _ (c .before .loop .inv .0) (c .loop-test .left)
+returns-3 c = ran-out _ _ _ _ (c .before .loop .inv) (c .loop-test .left)
 
 pub run-spec : {M : Type 1} → statement M
 run-spec =
@@ -77,7 +67,6 @@ run-spec =
     (λ c κs. search needs)
     (λ c. search needs)
     returns
-    codes-out-near-requires
     add-apply
     (λ c. search needs)
     (λ c. search needs)

@@ -1,6 +1,6 @@
 -- `calls::issue` meets its contract.
 use borrow.Author.Needs.{needs}
-use Rattle.register.proofs.Texts.{code-fits, is-register, code-short, issue-told, issue-refused}
+use Rattle.register.proofs.Texts.{code-fits, is-register, one-code, issue-told, issue-refused}
 use Rattle.register.proofs.calls.issue.Statement.{statement}
 use Rattle.register.proofs.calls.issue.Tie as tie
 
@@ -11,7 +11,7 @@ issue-requires : tie.Need-issue-requires
 issue-requires c κs =
     let admitted = c .before .before .before .before .before .before .admit .ensures in
     let found = c .before .before .before .enum-told .given .1 in
-    (is-register _ _ _ _ admitted found, code-short _ _ _ _ admitted found)
+    (is-register _ _ _ _ admitted found, one-code _ _ _ _ admitted found)
 
 returns : tie.Need-returns
 returns c = issue-told _ _ _ _ (c .before .before .before .before .before .before .before .before .before .admit .ensures) (c .before .before .before .before .before .before .enum-told .given .1) _ _ _ (c .before .before .issue .ensures)

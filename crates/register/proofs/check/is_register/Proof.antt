@@ -12,4 +12,15 @@ returns-2 : tie.Need-returns-2
 returns-2 c = search register-is
 
 pub is-register-spec : {M : Type 1} → statement M
-is-register-spec = tie.close (tie.spec returns (λ c κs. search needs) returns-2)
+is-register-spec =
+    tie.close
+    (tie.spec
+    returns
+    (λ c. search needs)
+    (λ c. search needs)
+    (λ c. search needs)
+    (λ c. search needs)
+    (λ c. search needs)
+    (λ c. search needs)
+    (λ c κs. search needs)
+    returns-2)
