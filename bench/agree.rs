@@ -1,12 +1,13 @@
 //! Both sides must answer alike, or their times say nothing: on every measured input, with the number that its row states; and
 //! on what is near the first input of a row: its beginnings, and each change of one byte. Calls on a register must agree on
-//! damaged ones too, on wrong counts and on codes near those that are out, and change no more than is put back behind a measured
-//! call. Logs are appended in areas of other lengths and at other positions too, and replayed where they are torn or a record
-//! stops them. The leaf and the loops in C count alike on bodies of every length.
+//! damaged ones too, on wrong counts, on codes near those that are out and where no record number is left, and change no more
+//! than is put back behind a measured call. Logs are appended in areas of other lengths and at other positions too, and
+//! replayed where they are torn, a record stops them, records are missing or all are applied already. The leaf and the loops in
+//! C count alike on bodies of every length.
 
 use crate::leaf;
 use crate::logs::{self, Record};
-use crate::registers::{count, used_places, Register, COUNTS, PLACE, PLACES};
+use crate::registers::{count, last_number, used_places, Register, COUNTS, LAST, PLACE, PLACES};
 use crate::rows::{Call, Loan, Row};
 use crate::{inputs, library, plain_append, sides, OnRegister, Writer, REPLAYS};
 use std::fmt::Debug;
@@ -97,7 +98,7 @@ fn number(row: &Row, case: usize, input: &[u8]) -> u32 {
         Call::Loan(call) => called(sides(call), input, &row.registers[case].area).0 .0,
         Call::Counts => called(crate::COUNTS, input, &row.registers[case].area).0 .0,
         Call::Append => written_again(input),
-        Call::Replay => called(REPLAYS, input, &row.registers[case].area).0 .0,
+        Call::Replay | Call::Skip => called(REPLAYS, input, &row.registers[case].area).0 .0,
         Call::Distance => {
             measured(&row.inputs[0], input);
             measured(input, &row.inputs[0])
@@ -178,13 +179,21 @@ fn miscounted(area: &[u8], mut check: impl FnMut(&[u8])) {
     }
 }
 
-/// Areas that begin like this one, of other lengths, and its places without the counts.
+/// Areas that begin like this one, of other lengths, the one without the last number among them, and its places without the
+/// counts.
 fn other_lengths(area: &[u8], mut check: impl FnMut(&[u8])) {
     let longer = [area, &[0; PLACE]].concat();
-    for length in [0, COUNTS, PLACE, area.len() - PLACE, area.len() - COUNTS, area.len() - 1, area.len() + 1, longer.len()] {
+    let near = [1, LAST, COUNTS, PLACE].map(|part| [part, area.len() - part, area.len() + part]);
+    for length in near.concat().into_iter().chain([0]) {
         check(&longer[..length]);
     }
     check(&area[COUNTS..]);
+    check(&area[COUNTS..area.len() - LAST]);
+}
+
+/// The area with this last number.
+fn numbered(area: &[u8], last: u32) -> Vec<u8> {
+    [&area[..area.len() - LAST], &last.to_be_bytes()].concat()
 }
 
 /// A code, and those right before and behind it of the same header; the last is followed by the first.
@@ -203,12 +212,29 @@ fn check_codes(call: Loan, area: &[u8]) {
     }
 }
 
+/// An issue and a return take the next number, whatever the last is, and tell it; where none is left they are refused with 26
+/// before 20 to 22. A question is answered as before.
+fn check_last_numbers(call: Loan, text: &[u8], area: &[u8], row: &Row) {
+    let asked = called(sides(call), text, area).0;
+    for last in [0, 1, 0xff, 0xffff, 0xff_ffff, 0x8000_0000, u32::MAX - 1, u32::MAX] {
+        let (answer, after) = called(sides(call), text, &numbered(area, last));
+        let (due, left) = match call {
+            Loan::Ask => (asked, last),
+            _ if last == u32::MAX => ((26, 0, 0), last),
+            _ if row.number != 0 => ((row.number, 0, 0), last),
+            _ => ((0, last + 1, 0), last + 1),
+        };
+        assert_eq!((answer, last_number(&after)), (due, left), "{row}: behind number {last}");
+    }
+}
+
 /// Calls on the registers of a row, and on the first: for codes that are out or near one, and with the first text where the
 /// register is damaged or has another length. A refused text is refused whatever the area.
 fn check_register(call: Loan, row: &Row) {
     row.inputs.iter().zip(&row.registers).for_each(|(text, register)| check_put_back(call, text, register));
     let (text, area) = (&row.inputs[0], &row.registers[0].area);
     check_codes(call, area);
+    check_last_numbers(call, text, area, row);
     damaged(area, |area| {
         called(sides(call), text, area);
     });
@@ -254,6 +280,10 @@ fn check_append(row: &Row) {
             }
         }
         assert_eq!(appended(&[record], usize::MAX, 2 * SHORT).0, (15, usize::MAX), "{row}");
+        for length in [0, whole - 1, whole] {
+            assert_eq!(appended(&[Record { number: 0, ..record }], 0, length).0, (24, 0), "{row}: number 0");
+        }
+        appended(&[Record { number: u32::MAX, ..record }], 0, whole);
         neighbours(record.code, |code| {
             for (position, length, room) in [(SHORT, 2 * SHORT, 0), (SHORT, SHORT, 15), (SHORT + 1, SHORT, 15)] {
                 let number = appended(&[Record { code, ..record }], position, length).0 .0;
@@ -263,17 +293,23 @@ fn check_append(row: &Row) {
     }
 }
 
-/// Those records of a log that a test takes, and no others.
-fn picked(log: &[u8], takes: impl Fn(&Record) -> bool) -> Vec<u8> {
-    let mut all = Vec::new();
-    let mut rest = log;
-    while let Some((record, behind)) = logs::first(rest) {
-        if takes(&logs::records(record)[0]) {
-            all.extend(record);
-        }
-        rest = behind;
-    }
-    all
+/// Those records of a log that a test takes, and no others, with the numbers that they have.
+fn picked<'a>(log: &'a [u8], takes: impl Fn(&Record) -> bool) -> Vec<Record<'a>> {
+    logs::records(log).into_iter().filter(takes).collect()
+}
+
+/// The log of these records, with the numbers that they have.
+fn log_of(records: &[Record]) -> Vec<u8> {
+    let ((number, position), mut log) = appended(records, 0, records.len() * SHORT);
+    assert_eq!(number, 0);
+    log.truncate(position);
+    log
+}
+
+/// The same with numbers in a row, from the one behind this.
+fn log_behind(last: u32, mut records: Vec<Record>) -> Vec<u8> {
+    (last + 1..).zip(&mut records).for_each(|(number, record)| record.number = number);
+    log_of(&records)
 }
 
 /// Replays on the first register of a row: of logs near the beginning of the first one, of logs that a record stops, and of
@@ -286,14 +322,22 @@ fn check_replay(row: &Row) {
     neighbours(start, |log| {
         replayed(log);
     });
-    assert_eq!(replayed(log), (0, RAN, 0), "{row}: as it was made");
+    let (ran, after) = called(REPLAYS, log, area);
+    assert_eq!(ran, (0, RAN, 0), "{row}: as it was made");
     assert_eq!(replayed(&log[..log.len() - 1]).1, TORN, "{row}: without its last byte");
-    let twice = [&log[..], log].concat();
-    assert!(matches!(replayed(&twice), (20 | 22, STOPPED, _)), "{row}: twice");
+    let last = last_number(area);
+    assert_eq!(last_number(&after), last + row.records as u32, "{row}: the last number");
+    assert!(called(REPLAYS, &[&log[..], log].concat(), area) == (ran, after), "{row}: twice");
+    for last in [0, last.wrapping_sub(1), last + 1, u32::MAX] {
+        called(REPLAYS, log, &numbered(area, last));
+    }
     if row.records > PLACES {
         let issues = picked(log, |record| record.borrower.is_some());
         let returns = picked(log, |record| record.borrower.is_none());
-        assert_eq!([issues, returns].map(|log| replayed(&log).0), [21, 22], "{row}: issues alone, and returns");
+        let missing = [&issues, &returns].map(|records| replayed(&log_of(records)).0);
+        assert_eq!(missing, [25; 2], "{row}: issues alone, and returns, with their numbers");
+        let stopped = [issues, returns].map(|records| replayed(&log_behind(last, records)).0);
+        assert_eq!(stopped, [21, 22], "{row}: issues alone, and returns, with numbers in a row");
     }
     damaged(area, |area| {
         called(REPLAYS, start, area);
@@ -301,6 +345,20 @@ fn check_replay(row: &Row) {
     out_of_order(area, |area| assert_eq!(called(REPLAYS, start, area).0, (23, 0, 0), "{row}: out of order"));
     miscounted(area, |area| assert_eq!(called(REPLAYS, start, area).0, (23, 0, 0), "{row}: miscounted"));
     other_lengths(area, |area| assert_eq!(called(REPLAYS, log, area).0, (23, 0, 0), "{row}: on {} bytes", area.len()));
+}
+
+/// Every record is skipped, and nothing is changed. One that is damaged stops the replay all the same.
+fn check_skip(row: &Row) {
+    let (log, area) = (&row.inputs[0], &row.registers[0].area);
+    let (ran, after) = called(REPLAYS, log, area);
+    assert_eq!(ran, (0, RAN, 0), "{row}");
+    assert!(after == *area, "{row}: another register is left");
+    neighbours(&log[..SHORT], |log| {
+        called(REPLAYS, log, area);
+    });
+    let mut damaged = log.clone();
+    damaged[0] = 1;
+    assert_eq!(called(REPLAYS, &damaged, area).0, (24, STOPPED, 0), "{row}: an older tag");
 }
 
 pub fn check(row: &Row) {
@@ -318,6 +376,7 @@ pub fn check(row: &Row) {
         Call::Counts => check_counts(row),
         Call::Append => check_append(row),
         Call::Replay => check_replay(row),
+        Call::Skip => check_skip(row),
         _ => {}
     }
 }

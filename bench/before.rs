@@ -15,9 +15,9 @@ mod turns;
 
 use entry::{LogIssue, LogReturn};
 use logs::Record;
-use registers::{Register, BORROWER, COUNTS, PLACE};
-use revisions::{Entries, Entry, Side};
-use rows::Row;
+use registers::{Register, BORROWER, COUNTS, LAST, PLACE};
+use revisions::{Entries, Entry, LogIssueUnnumbered, LogReturnUnnumbered, Side};
+use rows::{Call, Row};
 use std::process::exit;
 use std::time::Duration;
 use turns::{calls_in, in_turns, over};
@@ -40,6 +40,8 @@ enum Answer {
     Tested(u32),
     Measured((u32, u32, u32, f32)),
     Counted(u16),
+    /// With the record number, where both tell one.
+    Changed(u32, Option<u32>),
     /// With the looks, where both tell them.
     Held((u32, u32), Option<u32>),
     Out((u32, [u32; 8])),
@@ -50,7 +52,7 @@ impl Answer {
     fn number(&self) -> u32 {
         match *self {
             Answer::Written((number, _)) | Answer::Tested(number) => number,
-            Answer::Measured((number, ..)) | Answer::Held((number, _), _) => number,
+            Answer::Measured((number, ..)) | Answer::Changed(number, _) | Answer::Held((number, _), _) => number,
             Answer::Out((number, _)) | Answer::Replayed((number, ..)) => number,
             Answer::Counted(_) => 0,
         }
@@ -71,6 +73,13 @@ fn writer(issue: LogIssue, take_back: LogReturn) -> impl Fn(&mut [u8], usize, &R
     move |log, position, record| entry::append(issue, take_back, log, position, record)
 }
 
+fn writer_unnumbered(
+    issue: LogIssueUnnumbered,
+    take_back: LogReturnUnnumbered,
+) -> impl Fn(&mut [u8], usize, &Record) -> (u32, usize) {
+    move |log, position, record| revisions::append_unnumbered(issue, take_back, log, position, record)
+}
+
 fn sorted(places: &[u8]) -> Vec<u8> {
     let mut places: Vec<&[u8]> = places.chunks(PLACE).collect();
     places.sort();
@@ -78,39 +87,65 @@ fn sorted(places: &[u8]) -> Vec<u8> {
 }
 
 /// What both revisions promise of a register that a call left. Where one has another order of places than the other, those of a
-/// register that was changed are sorted: it is the same loans then, and not where each stands. Where one alone keeps counts, it is
-/// the places alone.
+/// register that was changed are sorted: it is the same loans then, and not where each stands. Counts or a last number that one
+/// alone keeps are left out.
 fn promised(before: &[u8], after: &[u8]) -> Vec<u8> {
-    let (counts, places) = after.split_at(COUNTS);
+    let (counts, rest) = after.split_at(COUNTS);
+    let (places, last) = rest.split_at(rest.len() - LAST);
     let places = if before != after && !Entries::order_alike() { sorted(places) } else { places.to_vec() };
-    if Entries::counts_alike() {
-        [counts, &places].concat()
-    } else {
-        places
-    }
+    let counts = if Entries::counts_alike() { counts } else { &[] };
+    let last = if Entries::numbers_alike() { last } else { &[] };
+    [counts, &places, last].concat()
 }
 
-/// What the entry answers, and what is to be compared of the area that it leaves.
-fn answer(Side { entry, start }: Side, row: &Row, case: usize) -> (Answer, Vec<u8>) {
-    let input = &row.inputs[case];
+/// Where one revision alone gives records numbers, a log that was written is compared without them.
+fn written(side: Side, (number, position): (u32, usize), log: &mut Vec<u8>) -> Answer {
+    if !Entries::numbers_alike() {
+        log.truncate(position);
+        if side.numbered {
+            *log = revisions::unnumbered(log);
+        }
+        return Answer::Written((number, log.len()));
+    }
+    Answer::Written((number, position))
+}
+
+/// With the record number, where both tell one.
+fn changed((number, record_number): (u32, u32)) -> Answer {
+    Answer::Changed(number, Entries::numbers_alike().then_some(record_number))
+}
+
+/// What the entry answers to an input, and what is to be compared of the area that it leaves.
+fn answer(side: Side, row: &Row, case: usize, input: &[u8]) -> (Answer, Vec<u8>) {
     let mut area = row.registers.get(case).map_or_else(|| row.area(), |register| register.area.clone());
-    let answer = match entry {
+    let answer = match side.entry {
         Entry::Writer(entry) => Answer::Written(entry::write(entry, input, &mut area)),
         Entry::Test(entry) => Answer::Tested(entry::test(entry, input)),
         Entry::Measure(entry) => Answer::Measured(entry::measure(entry, input, &row.inputs[0])),
         Entry::Count(entry) => Answer::Counted(entry::count(entry, input, &row.inputs[0])),
-        Entry::Issue(entry) => Answer::Tested(entry::issue(entry, input, BORROWER, &mut area[start..])),
-        Entry::Return(entry) => Answer::Tested(entry::take_back(entry, input, &mut area[start..])),
+        Entry::Issue(entry) => changed(entry::issue(entry, input, BORROWER, side.part(&mut area))),
+        Entry::IssueUnnumbered(entry) => {
+            Answer::Changed(revisions::issue_unnumbered(entry, input, BORROWER, side.part(&mut area)), None)
+        }
+        Entry::Return(entry) => changed(entry::take_back(entry, input, side.part(&mut area))),
+        Entry::ReturnUnnumbered(entry) => {
+            Answer::Changed(revisions::take_back_unnumbered(entry, input, side.part(&mut area)), None)
+        }
         Entry::Ask(entry) => {
-            let (number, borrower, looks) = entry::ask(entry, input, &area[start..]);
+            let (number, borrower, looks) = entry::ask(entry, input, side.part(&mut area));
             Answer::Held((number, borrower), Entries::order_alike().then_some(looks))
         }
-        Entry::AskHolder(entry) => Answer::Held(revisions::ask_holder(entry, input, &area[start..]), None),
-        Entry::Counts(entry) => Answer::Out(entry::counts(entry, &area[start..])),
+        Entry::AskHolder(entry) => Answer::Held(revisions::ask_holder(entry, input, side.part(&mut area)), None),
+        Entry::Counts(entry) => Answer::Out(entry::counts(entry, side.part(&mut area))),
         Entry::Append(issue, take_back) => {
-            Answer::Written(logs::append(&logs::records(input), &mut area, 0, writer(issue, take_back)))
+            let answer = logs::append(&logs::records(input), &mut area, 0, writer(issue, take_back));
+            written(side, answer, &mut area)
         }
-        Entry::Replay(entry) => Answer::Replayed(entry::replay(entry, input, &mut area[start..])),
+        Entry::AppendUnnumbered(issue, take_back) => {
+            let answer = logs::append(&logs::records(input), &mut area, 0, writer_unnumbered(issue, take_back));
+            written(side, answer, &mut area)
+        }
+        Entry::Replay(entry) => Answer::Replayed(entry::replay(entry, input, side.part(&mut area))),
     };
     match row.registers.get(case) {
         Some(register) => (answer, promised(&register.area, &area)),
@@ -120,8 +155,9 @@ fn answer(Side { entry, start }: Side, row: &Row, case: usize) -> (Answer, Vec<u
 
 /// Whether both answer alike, and with the number that the row states.
 fn alike(row: &Row, sides: Sides) -> bool {
+    let inputs = sides.map(|side| side.inputs(row));
     row.inputs.iter().enumerate().all(|(case, input)| {
-        let [before, after] = sides.map(|side| answer(side, row, case));
+        let [before, after] = [0, 1].map(|side| answer(sides[side], row, case, &inputs[side][case]));
         let stated = after.0.number() == row.number;
         if !stated {
             eprintln!("not as stated: {row}: {:?} after", after.0);
@@ -135,7 +171,7 @@ fn alike(row: &Row, sides: Sides) -> bool {
     })
 }
 
-/// What the calls of a row read and write beside its inputs.
+/// What the calls of a row read and write beside the inputs of a side.
 struct Areas<'a> {
     /// Those of the first input, where the call appends.
     records: Vec<Record<'a>>,
@@ -146,30 +182,35 @@ struct Areas<'a> {
 }
 
 /// Calls on the inputs in turn, and the time of them.
-fn run(Side { entry, start }: Side, row: &Row, Areas { records, area, registers }: &mut Areas, calls: usize) -> Duration {
-    match entry {
-        Entry::Writer(entry) => over(&row.inputs, calls, |input| entry::write(entry, input, area)),
-        Entry::Test(entry) => over(&row.inputs, calls, |input| entry::test(entry, input)),
-        Entry::Measure(entry) => over(&row.inputs, calls, |input| entry::measure(entry, input, &row.inputs[0])),
-        Entry::Count(entry) => over(&row.inputs, calls, |input| entry::count(entry, input, &row.inputs[0])),
-        Entry::Issue(entry) => registers::over(&row.inputs, registers, calls, |text, area| {
-            entry::issue(entry, text, BORROWER, &mut area[start..])
+fn run(side: Side, inputs: &[Vec<u8>], Areas { records, area, registers }: &mut Areas, calls: usize) -> Duration {
+    match side.entry {
+        Entry::Writer(entry) => over(inputs, calls, |input| entry::write(entry, input, area)),
+        Entry::Test(entry) => over(inputs, calls, |input| entry::test(entry, input)),
+        Entry::Measure(entry) => over(inputs, calls, |input| entry::measure(entry, input, &inputs[0])),
+        Entry::Count(entry) => over(inputs, calls, |input| entry::count(entry, input, &inputs[0])),
+        Entry::Issue(entry) => {
+            registers::over(inputs, registers, calls, |text, area| entry::issue(entry, text, BORROWER, side.part(area)))
+        }
+        Entry::IssueUnnumbered(entry) => registers::over(inputs, registers, calls, |text, area| {
+            revisions::issue_unnumbered(entry, text, BORROWER, side.part(area))
         }),
         Entry::Return(entry) => {
-            registers::over(&row.inputs, registers, calls, |text, area| entry::take_back(entry, text, &mut area[start..]))
+            registers::over(inputs, registers, calls, |text, area| entry::take_back(entry, text, side.part(area)))
         }
+        Entry::ReturnUnnumbered(entry) => registers::over(inputs, registers, calls, |text, area| {
+            revisions::take_back_unnumbered(entry, text, side.part(area))
+        }),
         Entry::Ask(entry) => {
-            registers::over(&row.inputs, registers, calls, |text, area| entry::ask(entry, text, &area[start..]))
+            registers::over(inputs, registers, calls, |text, area| entry::ask(entry, text, side.part(area)))
         }
         Entry::AskHolder(entry) => {
-            registers::over(&row.inputs, registers, calls, |text, area| revisions::ask_holder(entry, text, &area[start..]))
+            registers::over(inputs, registers, calls, |text, area| revisions::ask_holder(entry, text, side.part(area)))
         }
-        Entry::Counts(entry) => {
-            registers::over(&row.inputs, registers, calls, |_, area| entry::counts(entry, &area[start..]))
-        }
+        Entry::Counts(entry) => registers::over(inputs, registers, calls, |_, area| entry::counts(entry, side.part(area))),
         Entry::Append(issue, take_back) => logs::over(records, area, calls, writer(issue, take_back)),
+        Entry::AppendUnnumbered(issue, take_back) => logs::over(records, area, calls, writer_unnumbered(issue, take_back)),
         Entry::Replay(entry) => {
-            registers::over(&row.inputs, registers, calls, |log, area| entry::replay(entry, log, &mut area[start..]))
+            registers::over(inputs, registers, calls, |log, area| entry::replay(entry, log, side.part(area)))
         }
     }
 }
@@ -181,11 +222,12 @@ fn fastest(times: &[f64], one_in: usize) -> f64 {
 }
 
 fn measure(row: &Row, sides: Sides) {
-    // The same areas for both sides, so that they differ in nothing but the entry.
-    let records = if let Entry::Append(..) = sides[0].entry { logs::records(&row.inputs[0]) } else { Vec::new() };
+    // The same areas for both sides, so that they differ in nothing but the entry; and the form of a log, where that differs.
+    let records = if let Call::Append = row.call { logs::records(&row.inputs[0]) } else { Vec::new() };
     let mut areas = Areas { records, area: row.area(), registers: row.registers.clone() };
-    let calls = calls_in(TURN, |calls| run(sides[0], row, &mut areas, calls));
-    let mut times = in_turns(ROUNDS, [calls; 2], |side, calls| run(sides[side], row, &mut areas, calls));
+    let inputs = sides.map(|side| side.inputs(row));
+    let calls = calls_in(TURN, |calls| run(sides[0], &inputs[0], &mut areas, calls));
+    let mut times = in_turns(ROUNDS, [calls; 2], |side, calls| run(sides[side], &inputs[side], &mut areas, calls));
     times.iter_mut().for_each(|side| side.sort_by(f64::total_cmp));
     let [before, after] = &times;
     let ratio = fastest(after, 4) / fastest(before, 4);

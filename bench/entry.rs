@@ -4,8 +4,8 @@ use crate::logs::Record;
 
 #[repr(C)]
 pub struct Written {
-    number: u32,
-    length: usize,
+    pub number: u32,
+    pub length: usize,
 }
 
 #[repr(C)]
@@ -14,6 +14,12 @@ pub struct DistanceAnswer {
     d: u32,
     n: u32,
     ratio: f32,
+}
+
+#[repr(C)]
+pub struct Changed {
+    number: u32,
+    record_number: u32,
 }
 
 #[repr(C)]
@@ -47,18 +53,18 @@ pub type Measure = unsafe extern "C" fn(*const u8, usize, *const u8, usize) -> D
 pub type Count = unsafe extern "C" fn(*const u8, usize, *const u8, usize) -> u16;
 
 /// Reads one area, reads and writes another: a code goes out to a borrower.
-pub type Issue = unsafe extern "C" fn(*const u8, usize, u32, *mut u8, usize) -> u32;
+pub type Issue = unsafe extern "C" fn(*const u8, usize, u32, *mut u8, usize) -> Changed;
 /// Reads one area, reads and writes another: a code comes back.
-pub type Return = unsafe extern "C" fn(*const u8, usize, *mut u8, usize) -> u32;
+pub type Return = unsafe extern "C" fn(*const u8, usize, *mut u8, usize) -> Changed;
 /// Reads two areas: who has a code, and how many places were looked at.
 pub type Ask = unsafe extern "C" fn(*const u8, usize, *const u8, usize) -> Holder;
 /// Reads one area: how many codes are out.
 pub type Counts = unsafe extern "C" fn(*const u8, usize) -> Counted;
 
-/// Writes one area at a position, reads another: the record of a code that goes out to a borrower.
-pub type LogIssue = unsafe extern "C" fn(*mut u8, usize, usize, *const u8, usize, u32) -> Written;
-/// Writes one area at a position, reads another: the record of a code that comes back.
-pub type LogReturn = unsafe extern "C" fn(*mut u8, usize, usize, *const u8, usize) -> Written;
+/// Writes one area at a position, reads another: the record, with its number, of a code that goes out to a borrower.
+pub type LogIssue = unsafe extern "C" fn(*mut u8, usize, usize, u32, *const u8, usize, u32) -> Written;
+/// Writes one area at a position, reads another: the record, with its number, of a code that comes back.
+pub type LogReturn = unsafe extern "C" fn(*mut u8, usize, usize, u32, *const u8, usize) -> Written;
 /// Reads one area, reads and writes another.
 pub type Replay = unsafe extern "C" fn(*const u8, usize, *mut u8, usize) -> Replayed;
 
@@ -84,14 +90,16 @@ pub fn count(entry: Count, a: &[u8], b: &[u8]) -> u16 {
     unsafe { entry(a.as_ptr(), a.len(), b.as_ptr(), b.len()) }
 }
 
-pub fn issue(entry: Issue, text: &[u8], borrower: u32, area: &mut [u8]) -> u32 {
+pub fn issue(entry: Issue, text: &[u8], borrower: u32, area: &mut [u8]) -> (u32, u32) {
     // As with write.
-    unsafe { entry(text.as_ptr(), text.len(), borrower, area.as_mut_ptr(), area.len()) }
+    let answer = unsafe { entry(text.as_ptr(), text.len(), borrower, area.as_mut_ptr(), area.len()) };
+    (answer.number, answer.record_number)
 }
 
-pub fn take_back(entry: Return, text: &[u8], area: &mut [u8]) -> u32 {
+pub fn take_back(entry: Return, text: &[u8], area: &mut [u8]) -> (u32, u32) {
     // As with write.
-    unsafe { entry(text.as_ptr(), text.len(), area.as_mut_ptr(), area.len()) }
+    let answer = unsafe { entry(text.as_ptr(), text.len(), area.as_mut_ptr(), area.len()) };
+    (answer.number, answer.record_number)
 }
 
 pub fn ask(entry: Ask, text: &[u8], area: &[u8]) -> (u32, u32, u32) {
@@ -107,11 +115,11 @@ pub fn counts(entry: Counts, area: &[u8]) -> (u32, [u32; 8]) {
 }
 
 pub fn append(issue: LogIssue, take_back: LogReturn, log: &mut [u8], position: usize, record: &Record) -> (u32, usize) {
-    let code = record.code;
+    let &Record { number, code, borrower } = record;
     // As with write.
-    let answer = match record.borrower {
-        Some(borrower) => unsafe { issue(log.as_mut_ptr(), log.len(), position, code.as_ptr(), code.len(), borrower) },
-        None => unsafe { take_back(log.as_mut_ptr(), log.len(), position, code.as_ptr(), code.len()) },
+    let answer = match borrower {
+        Some(to) => unsafe { issue(log.as_mut_ptr(), log.len(), position, number, code.as_ptr(), code.len(), to) },
+        None => unsafe { take_back(log.as_mut_ptr(), log.len(), position, number, code.as_ptr(), code.len()) },
     };
     (answer.number, answer.length)
 }

@@ -2,7 +2,7 @@
 
 use crate::inputs;
 use crate::random::Random;
-use crate::registers::{self, Codes, Register};
+use crate::registers::{self, last_number, Codes, Register};
 use crate::turns::time;
 use std::hint::black_box;
 use std::time::Duration;
@@ -16,6 +16,7 @@ pub enum Kind {
 /// What is appended.
 #[derive(Clone, Copy)]
 pub struct Record<'a> {
+    pub number: u32,
     pub code: &'a [u8],
     /// Whom it is issued to; none for a return.
     pub borrower: Option<u32>,
@@ -30,41 +31,41 @@ fn random_of(count: usize, out: usize, case: u64) -> Random {
     Random::of_case(24, (count * 1000 + out) as u64, case)
 }
 
-fn record(kind: Kind, code: &[u8], random: &mut Random) -> Vec<u8> {
+fn record(number: u32, kind: Kind, code: &[u8], random: &mut Random) -> Vec<u8> {
     let (tag, borrower) = match kind {
-        Kind::Issue => (1, random.bytes(4)),
-        Kind::Return => (2, Vec::new()),
+        Kind::Issue => (3, random.bytes(4)),
+        Kind::Return => (4, Vec::new()),
     };
-    let length = (borrower.len() + code.len()) as u16;
-    [&[tag], &length.to_be_bytes()[..], &borrower, code].concat()
+    let length = (4 + borrower.len() + code.len()) as u16;
+    [&[tag], &length.to_be_bytes()[..], &number.to_be_bytes(), &borrower, code].concat()
 }
 
 /// A log of so many records of these kinds, in any order. Whether it can be replayed is no matter for a writer.
 pub fn listed(count: usize, kinds: &[Kind]) -> Vec<u8> {
     let random = &mut random_of(count, kinds.len(), 0);
     let mut log = Vec::new();
-    for _ in 0..count {
+    for number in 1..=count {
         let (kind, code) = (random.pick(kinds), inputs::mixed(random));
-        log.extend(record(kind, &code, random));
+        log.extend(record(number as u32, kind, &code, random));
     }
     log
 }
 
-/// A log that a replay takes to its end, and the register that it is for. About so many codes are out all the while: an
-/// issue is of one that is not out, a return of any that is.
+/// A log that a replay takes to its end, and the register that it is for: its first number is the next one there. About so many
+/// codes are out all the while: an issue is of one that is not out, a return of any that is.
 fn replayable(count: usize, out: usize, random: &mut Random) -> (Vec<u8>, Register) {
     let mut held = registers::codes_in_order(Codes::Mixed, out, random);
     let area = registers::area_of(&held, random);
     let mut log = Vec::new();
-    for _ in 0..count {
+    for number in (last_number(&area) + 1..).take(count) {
         let issue = held.len() + SPREAD <= out || held.len() < out + SPREAD && random.percent(50);
         if issue {
             let code = registers::another(&held, || inputs::mixed(random));
-            log.extend(record(Kind::Issue, &code, random));
+            log.extend(record(number, Kind::Issue, &code, random));
             held.push(code);
         } else {
             let code = held.swap_remove(random.below(held.len()));
-            log.extend(record(Kind::Return, &code, random));
+            log.extend(record(number, Kind::Return, &code, random));
         }
     }
     (log, Register::whole(area))
@@ -73,6 +74,17 @@ fn replayable(count: usize, out: usize, random: &mut Random) -> (Vec<u8>, Regist
 pub fn made(count: usize, out: usize) -> (Vec<Vec<u8>>, Vec<Register>) {
     let cases = if count == 1 { SINGLES } else { 1 };
     (0..cases).map(|case| replayable(count, out, &mut random_of(count, out, case))).unzip()
+}
+
+/// The same, but the registers are those that the logs leave: every record is applied already.
+pub fn applied(count: usize, out: usize) -> (Vec<Vec<u8>>, Vec<Register>) {
+    let (logs, registers) = made(count, out);
+    let after = |(log, Register { mut area, .. }): (&Vec<u8>, Register)| {
+        assert_eq!(plain::replay(log, &mut area).0, 0);
+        Register::whole(area)
+    };
+    let registers = logs.iter().zip(registers).map(after).collect();
+    (logs, registers)
 }
 
 /// The first record of a log that has whole ones alone, and what is behind it.
@@ -85,11 +97,12 @@ pub fn first(log: &[u8]) -> Option<(&[u8], &[u8])> {
 pub fn records(mut log: &[u8]) -> Vec<Record<'_>> {
     let mut all = Vec::new();
     while let Some((record, behind)) = first(log) {
-        let (borrower, code) = match record {
-            [1, _, _, a, b, c, d, code @ ..] => (Some(u32::from_be_bytes([*a, *b, *c, *d])), code),
-            _ => (None, &record[3..]),
+        let (number, rest) = record[3..].split_first_chunk().unwrap();
+        let (borrower, code) = match (record[0], rest) {
+            (3, [a, b, c, d, code @ ..]) => (Some(u32::from_be_bytes([*a, *b, *c, *d])), code),
+            _ => (None, rest),
         };
-        all.push(Record { code, borrower });
+        all.push(Record { number: u32::from_be_bytes(*number), code, borrower });
         log = behind;
     }
     all

@@ -35,15 +35,21 @@ const REPLAYS: [OnRegister<(u32, u32, usize)>; 2] = [library::replay, plain::rep
 /// The proved and the plain side of the counts, which have no other input than the register.
 const COUNTS: [OnRegister<(u32, [u32; 8])>; 2] = [|_, area| library::counts(area), |_, area| plain::counts(area)];
 
-/// The proved and the plain side of a call on a register: its number, and of a question the borrower and the looks.
+/// The answer of a change in as many numbers as that of a question.
+fn change((number, record_number): (u32, u32)) -> (u32, u32, u32) {
+    (number, record_number, 0)
+}
+
+/// The proved and the plain side of a call on a register: its number, and the record number of a change, or of a question the
+/// borrower and the looks.
 fn sides(call: Loan) -> [OnRegister<(u32, u32, u32)>; 2] {
     match call {
         Loan::Issue => [
-            |text, area| (library::issue(text, BORROWER, area), 0, 0),
-            |text, area| (plain::issue(text, BORROWER, area), 0, 0),
+            |text, area| change(library::issue(text, BORROWER, area)),
+            |text, area| change(plain::issue(text, BORROWER, area)),
         ],
         Loan::Return => {
-            [|text, area| (library::take_back(text, area), 0, 0), |text, area| (plain::take_back(text, area), 0, 0)]
+            [|text, area| change(library::take_back(text, area)), |text, area| change(plain::take_back(text, area))]
         }
         Loan::Ask => [|text, area| library::ask(text, area), |text, area| plain::ask(text, area)],
     }
@@ -80,8 +86,8 @@ fn on_registers<T>(row: &Row, [proved, plain]: [OnRegister<T>; 2]) -> Figures {
 
 fn plain_append(log: &mut [u8], position: usize, record: &Record) -> (u32, usize) {
     match record.borrower {
-        Some(borrower) => plain::log_issue(log, position, record.code, borrower),
-        None => plain::log_return(log, position, record.code),
+        Some(borrower) => plain::log_issue(log, position, record.number, record.code, borrower),
+        None => plain::log_return(log, position, record.number, record.code),
     }
 }
 
@@ -118,7 +124,7 @@ fn figures(row: &Row) -> Option<Figures> {
         Call::Loan(call) => on_registers(row, sides(call)),
         Call::Counts => on_registers(row, COUNTS),
         Call::Append => append(row),
-        Call::Replay => on_registers(row, REPLAYS),
+        Call::Replay | Call::Skip => on_registers(row, REPLAYS),
     })
 }
 

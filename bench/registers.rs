@@ -11,6 +11,8 @@ pub const PLACE: usize = 48;
 pub const PLACES: usize = 256;
 /// Bytes before the places: eight counts.
 pub const COUNTS: usize = 16;
+/// Bytes behind the places: the last number, high byte first.
+pub const LAST: usize = 4;
 /// So many different registers are taken in turn, each with a text of its own. A cache can hold them.
 const REGISTERS: usize = 16;
 /// Whom a code is issued to.
@@ -20,18 +22,19 @@ pub const BORROWER: u32 = 0x0102_0304;
 #[derive(Clone)]
 pub struct Register {
     pub area: Vec<u8>,
-    /// As they were made: the counts, and the bytes of some places from an offset on.
+    /// As they were made: the counts, the last number, and the bytes of some places from an offset on.
     counts: [u8; COUNTS],
+    last: [u8; LAST],
     offset: usize,
     part: Vec<u8>,
 }
 
 impl Register {
-    /// The call may change the counts and these places.
+    /// The call may change the counts, the last number and these places.
     fn new(area: Vec<u8>, places: Range<usize>) -> Register {
         let [offset, end] = [places.start, places.end].map(|place| COUNTS + PLACE * place);
         let part = area[offset..end].to_vec();
-        Register { counts: *area.first_chunk().unwrap(), area, offset, part }
+        Register { counts: *area.first_chunk().unwrap(), last: *area.last_chunk().unwrap(), area, offset, part }
     }
 
     /// A replay may change every place.
@@ -42,6 +45,7 @@ impl Register {
     /// Undoes what the measured call changed.
     pub fn put_back(&mut self) {
         self.area[..COUNTS].copy_from_slice(&self.counts);
+        *self.area.last_chunk_mut().unwrap() = self.last;
         self.area[self.offset..self.offset + self.part.len()].copy_from_slice(&self.part);
     }
 }
@@ -105,14 +109,20 @@ pub fn count(area: &mut [u8]) {
     area[..COUNTS].copy_from_slice(&counts.map(u16::to_be_bytes).concat());
 }
 
-/// The register of these codes, which are in order.
+pub fn last_number(area: &[u8]) -> u32 {
+    u32::from_be_bytes(*area.last_chunk().unwrap())
+}
+
+/// The register of these codes, which are in order. Its last number is any of the lower half, so that many are left.
 pub fn area_of(codes: &[Vec<u8>], random: &mut Random) -> Vec<u8> {
-    let mut area = vec![0; COUNTS + PLACES * PLACE];
+    let mut area = vec![0; COUNTS + PLACES * PLACE + LAST];
     for (place, code) in area[COUNTS..].chunks_exact_mut(PLACE).zip(codes) {
         place[0] = code.len() as u8;
         place[1..=code.len()].copy_from_slice(code);
         place[PLACE - 4..].copy_from_slice(&random.bytes(4));
     }
+    area[COUNTS + PLACES * PLACE..].copy_from_slice(&random.bytes(LAST));
+    area[COUNTS + PLACES * PLACE] &= 0x7f;
     count(&mut area);
     area
 }

@@ -1,8 +1,9 @@
 //! The entries of both revisions. `bench/before` has named them before_NAME and after_NAME.
 
-use crate::entry::{Ask, Count, Counts, Issue, LogIssue, LogReturn, Measure, Replay, Return, Test, Writer};
-use crate::registers::COUNTS;
-use crate::rows::{Call, Loan};
+use crate::entry::{Ask, Count, Counts, Issue, LogIssue, LogReturn, Measure, Replay, Return, Test, Writer, Written};
+use crate::logs::{self, Record};
+use crate::registers::{COUNTS, LAST};
+use crate::rows::{Call, Loan, Row};
 use std::arch::global_asm;
 
 #[repr(C)]
@@ -20,6 +21,51 @@ pub fn ask_holder(entry: AskHolder, text: &[u8], area: &[u8]) -> (u32, u32) {
     (answer.number, answer.borrower)
 }
 
+/// An issue, a return and their records while records had no numbers: a change told none, and the writer took none.
+pub type IssueUnnumbered = unsafe extern "C" fn(*const u8, usize, u32, *mut u8, usize) -> u32;
+pub type ReturnUnnumbered = unsafe extern "C" fn(*const u8, usize, *mut u8, usize) -> u32;
+pub type LogIssueUnnumbered = unsafe extern "C" fn(*mut u8, usize, usize, *const u8, usize, u32) -> Written;
+pub type LogReturnUnnumbered = unsafe extern "C" fn(*mut u8, usize, usize, *const u8, usize) -> Written;
+
+pub fn issue_unnumbered(entry: IssueUnnumbered, text: &[u8], borrower: u32, area: &mut [u8]) -> u32 {
+    // Both areas are as long as said, and a shared and a unique borrow cannot overlap.
+    unsafe { entry(text.as_ptr(), text.len(), borrower, area.as_mut_ptr(), area.len()) }
+}
+
+pub fn take_back_unnumbered(entry: ReturnUnnumbered, text: &[u8], area: &mut [u8]) -> u32 {
+    // As with an issue.
+    unsafe { entry(text.as_ptr(), text.len(), area.as_mut_ptr(), area.len()) }
+}
+
+pub fn append_unnumbered(
+    issue: LogIssueUnnumbered,
+    take_back: LogReturnUnnumbered,
+    log: &mut [u8],
+    position: usize,
+    record: &Record,
+) -> (u32, usize) {
+    let code = record.code;
+    // As with an issue.
+    let answer = match record.borrower {
+        Some(borrower) => unsafe { issue(log.as_mut_ptr(), log.len(), position, code.as_ptr(), code.len(), borrower) },
+        None => unsafe { take_back(log.as_mut_ptr(), log.len(), position, code.as_ptr(), code.len()) },
+    };
+    (answer.number, answer.length)
+}
+
+/// The same records as they were before they had numbers: of tags 1 and 2.
+pub fn unnumbered(log: &[u8]) -> Vec<u8> {
+    let mut all = Vec::new();
+    for Record { code, borrower, .. } in logs::records(log) {
+        let (tag, borrower) = borrower.map_or((2, Vec::new()), |borrower| (1, borrower.to_be_bytes().to_vec()));
+        all.push(tag);
+        all.extend(((borrower.len() + code.len()) as u16).to_be_bytes());
+        all.extend(borrower);
+        all.extend(code);
+    }
+    all
+}
+
 #[derive(Clone, Copy)]
 pub enum Entry {
     Writer(Writer),
@@ -27,11 +73,14 @@ pub enum Entry {
     Measure(Measure),
     Count(Count),
     Issue(Issue),
+    IssueUnnumbered(IssueUnnumbered),
     Return(Return),
+    ReturnUnnumbered(ReturnUnnumbered),
     Ask(Ask),
     AskHolder(AskHolder),
     Counts(Counts),
     Append(LogIssue, LogReturn),
+    AppendUnnumbered(LogIssueUnnumbered, LogReturnUnnumbered),
     Replay(Replay),
 }
 
@@ -39,8 +88,27 @@ pub enum Entry {
 #[derive(Clone, Copy)]
 pub struct Side {
     pub entry: Entry,
-    /// Where in the area of a row the register starts that this revision is lent.
-    pub start: usize,
+    /// Bytes of a row's register that this revision does not know, and so is not lent: at the start, and at the end.
+    start: usize,
+    end: usize,
+    /// Whether its records have numbers.
+    pub numbered: bool,
+}
+
+impl Side {
+    /// The part of a row's register that this revision is lent.
+    pub fn part<'a>(&self, area: &'a mut [u8]) -> &'a mut [u8] {
+        let end = area.len() - self.end;
+        &mut area[self.start..end]
+    }
+
+    /// What the calls of a row are given: a log that is replayed is in this revision's own form.
+    pub fn inputs(&self, row: &Row) -> Vec<Vec<u8>> {
+        match self.entry {
+            Entry::Replay(_) if !self.numbered => row.inputs.iter().map(|log| unnumbered(log)).collect(),
+            _ => row.inputs.clone(),
+        }
+    }
 }
 
 // A table of addresses for each revision. The names are weak: one that a revision lacks is a null address, which is None.
@@ -84,12 +152,16 @@ entries! {
     distance: Measure,
     differing: Count,
     loans_issue: Issue,
+    loans_issue_unnumbered: IssueUnnumbered,
     loans_return: Return,
+    loans_return_unnumbered: ReturnUnnumbered,
     loans_ask: Ask,
     loans_ask_holder: AskHolder,
     loans_counts: Counts,
     loans_log_issue: LogIssue,
+    loans_log_issue_unnumbered: LogIssueUnnumbered,
     loans_log_return: LogReturn,
+    loans_log_return_unnumbered: LogReturnUnnumbered,
     loans_replay: Replay,
 }
 
@@ -119,7 +191,17 @@ impl Entries {
         Entries::before().start() == Entries::after().start()
     }
 
-    /// A register without counts is its places alone. So both revisions have the same places, at the same addresses.
+    /// Whether both give records numbers, and keep the last one behind the places of a register, or neither does.
+    pub fn numbers_alike() -> bool {
+        Entries::before().numbered() == Entries::after().numbered()
+    }
+
+    /// Whether records have numbers: `bench/before` has given the entries of a revision without them names of their own.
+    fn numbered(&self) -> bool {
+        self.loans_issue.is_some()
+    }
+
+    /// A register without counts begins with its places. So both revisions have the same places, at the same addresses.
     fn start(&self) -> usize {
         match self.loans_counts {
             Some(_) => 0,
@@ -128,7 +210,17 @@ impl Entries {
     }
 
     pub fn side(&self, call: Call) -> Option<Side> {
-        self.of(call).map(|entry| Side { entry, start: self.start() })
+        let numbered = self.numbered();
+        let end = if numbered { 0 } else { LAST };
+        self.of(call).map(|entry| Side { entry, start: self.start(), end, numbered })
+    }
+
+    fn append(&self) -> Option<Entry> {
+        if self.numbered() {
+            Some(Entry::Append(self.loans_log_issue?, self.loans_log_return?))
+        } else {
+            Some(Entry::AppendUnnumbered(self.loans_log_issue_unnumbered?, self.loans_log_return_unnumbered?))
+        }
     }
 
     fn of(&self, call: Call) -> Option<Entry> {
@@ -143,12 +235,18 @@ impl Entries {
             Call::Split => self.split.map(Entry::Writer),
             Call::Distance => self.distance.map(Entry::Measure),
             Call::Differing => self.differing.map(Entry::Count),
-            Call::Loan(Loan::Issue) => self.loans_issue.map(Entry::Issue),
-            Call::Loan(Loan::Return) => self.loans_return.map(Entry::Return),
+            Call::Loan(Loan::Issue) => {
+                self.loans_issue.map(Entry::Issue).or(self.loans_issue_unnumbered.map(Entry::IssueUnnumbered))
+            }
+            Call::Loan(Loan::Return) => {
+                self.loans_return.map(Entry::Return).or(self.loans_return_unnumbered.map(Entry::ReturnUnnumbered))
+            }
             Call::Loan(Loan::Ask) => self.loans_ask.map(Entry::Ask).or(self.loans_ask_holder.map(Entry::AskHolder)),
             Call::Counts => self.loans_counts.map(Entry::Counts),
-            Call::Append => Some(Entry::Append(self.loans_log_issue?, self.loans_log_return?)),
+            Call::Append => self.append(),
             Call::Replay => self.loans_replay.map(Entry::Replay),
+            // Without numbers no record is known to be applied already.
+            Call::Skip => self.loans_replay.filter(|_| self.numbered()).map(Entry::Replay),
         }
     }
 }

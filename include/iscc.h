@@ -48,9 +48,9 @@ extern "C" {
  * ISCC_VERSION.
  */
 #define ISCC_VERSION_MAJOR 0
-#define ISCC_VERSION_MINOR 6
+#define ISCC_VERSION_MINOR 7
 #define ISCC_VERSION_PATCH 0
-#define ISCC_VERSION_TEXT "0.6.0"
+#define ISCC_VERSION_TEXT "0.7.0"
 #define ISCC_VERSION \
     (ISCC_VERSION_MAJOR * 65536 + ISCC_VERSION_MINOR * 256 + ISCC_VERSION_PATCH)
 
@@ -89,7 +89,9 @@ enum iscc_number {
     ISCC_ALL_OUT = 21,                /* 256 other codes are out: no place is free */
     ISCC_NOT_OUT = 22,                /* a return or a question, and the code is not out */
     ISCC_NOT_REGISTER = 23,           /* the area is not a register */
-    ISCC_NOT_RECORD = 24              /* a record or its code bytes are none for the log */
+    ISCC_NOT_RECORD = 24,             /* a record, its number or its code is none for the log */
+    ISCC_NUMBER_GAP = 25,             /* replay: a record is missing before this one */
+    ISCC_NUMBERS_SPENT = 26           /* an issue or a return, and no record number is left */
 };
 
 /*
@@ -127,6 +129,8 @@ ISCC_INLINE const char *iscc_refusal_text(uint32_t number) {
     case ISCC_NOT_OUT: return "This code is not out.";
     case ISCC_NOT_REGISTER: return "The register is damaged, or this is no register.";
     case ISCC_NOT_RECORD: return "This is no record of the log.";
+    case ISCC_NUMBER_GAP: return "A record is missing before this one.";
+    case ISCC_NUMBERS_SPENT: return "No record number is left: this register takes no more changes.";
     default: return "There is no such number.";
     }
 }

@@ -1,11 +1,12 @@
-//! The pending issues log: records of a tag, a length in two bytes and a body. A replay tests the register once, then applies
-//! the records one by one, and keeps along how many places are used.
+//! The pending issues log: records of a tag, a length in two bytes and a body that begins with the record number. A replay
+//! tests the register once, then applies or skips the records one by one, and keeps along how many places are used and the last
+//! number.
 
 use crate::doors::{Code, LONGEST_CODE};
 use crate::register::{is_code, Register};
 
-const ISSUE: u8 = 1;
-const RETURN: u8 = 2;
+const ISSUE: u8 = 3;
+const RETURN: u8 = 4;
 /// Tag and length.
 const HEAD: usize = 3;
 
@@ -15,16 +16,18 @@ const TORN: u32 = 2;
 const STOPPED: u32 = 3;
 
 /// Writes a whole record at the position, or nothing: 24, 15.
-fn append(log: &mut [u8], position: usize, tag: u8, borrower: &[u8], code: &[u8]) -> Result<usize, u32> {
-    if !is_code(code) {
+fn append(log: &mut [u8], position: usize, tag: u8, number: u32, borrower: &[u8], code: &[u8]) -> Result<usize, u32> {
+    if number == 0 || !is_code(code) {
         return Err(24);
     }
-    let length = borrower.len() + code.len();
+    let length = size_of_val(&number) + borrower.len() + code.len();
     let room = log.get_mut(position..).and_then(|rest| rest.get_mut(..HEAD + length)).ok_or(15u32)?;
-    let (head, body) = room.split_at_mut(HEAD);
+    let (head, body) = room.split_first_chunk_mut::<HEAD>().unwrap();
     let [high, low] = (length as u16).to_be_bytes();
-    head.copy_from_slice(&[tag, high, low]);
-    let (first, rest) = body.split_at_mut(borrower.len());
+    *head = [tag, high, low];
+    let (first, rest) = body.split_first_chunk_mut().unwrap();
+    *first = number.to_be_bytes();
+    let (first, rest) = rest.split_at_mut(borrower.len());
     first.copy_from_slice(borrower);
     rest.copy_from_slice(code);
     Ok(HEAD + length)
@@ -35,34 +38,58 @@ fn answer(written: Result<usize, u32>) -> (u32, usize) {
 }
 
 #[inline(never)]
-pub fn log_issue(log: &mut [u8], position: usize, code: &[u8], borrower: u32) -> (u32, usize) {
-    answer(append(log, position, ISSUE, &borrower.to_be_bytes(), code))
+pub fn log_issue(log: &mut [u8], position: usize, number: u32, code: &[u8], borrower: u32) -> (u32, usize) {
+    answer(append(log, position, ISSUE, number, &borrower.to_be_bytes(), code))
 }
 
 #[inline(never)]
-pub fn log_return(log: &mut [u8], position: usize, code: &[u8]) -> (u32, usize) {
-    answer(append(log, position, RETURN, &[], code))
+pub fn log_return(log: &mut [u8], position: usize, number: u32, code: &[u8]) -> (u32, usize) {
+    answer(append(log, position, RETURN, number, &[], code))
 }
 
-/// The code that some bytes are, or 24.
-fn code_of(bytes: &[u8]) -> Result<Code, u32> {
-    if !is_code(bytes) {
+/// What a record says.
+struct Record<'a> {
+    number: u32,
+    /// Whom the code is issued to; none for a return.
+    borrower: Option<u32>,
+    code: &'a [u8],
+}
+
+/// The record that a whole one is, or 24.
+fn read(tag: u8, body: &[u8]) -> Result<Record<'_>, u32> {
+    let (number, rest) = body.split_first_chunk().ok_or(24u32)?;
+    let number = u32::from_be_bytes(*number);
+    let (borrower, code) = match tag {
+        ISSUE => {
+            let (borrower, code) = rest.split_first_chunk().ok_or(24u32)?;
+            (Some(u32::from_be_bytes(*borrower)), code)
+        }
+        RETURN => (None, rest),
+        _ => return Err(24),
+    };
+    if number == 0 || !is_code(code) {
         return Err(24);
     }
-    let mut code = Code { bytes: [0; LONGEST_CODE], length: bytes.len() };
-    code.bytes[..bytes.len()].copy_from_slice(bytes);
-    Ok(code)
+    Ok(Record { number, borrower, code })
 }
 
+/// 24; nothing where the number is applied already; 25; 20 to 22.
 fn apply(tag: u8, body: &[u8], register: &mut Register) -> Result<(), u32> {
-    match tag {
-        ISSUE => {
-            let (borrower, code) = body.split_first_chunk().ok_or(24u32)?;
-            register.put_out(&code_of(code)?, u32::from_be_bytes(*borrower))
-        }
-        RETURN => register.put_back(&code_of(body)?),
-        _ => Err(24),
+    let record = read(tag, body)?;
+    if record.number <= register.last {
+        return Ok(());
     }
+    if record.number - register.last != 1 {
+        return Err(25);
+    }
+    let mut code = Code { bytes: [0; LONGEST_CODE], length: record.code.len() };
+    code.bytes[..record.code.len()].copy_from_slice(record.code);
+    match record.borrower {
+        Some(borrower) => register.put_out(&code, borrower)?,
+        None => register.put_back(&code)?,
+    }
+    register.take(record.number);
+    Ok(())
 }
 
 /// The tag and the body of the first record and what is behind it; none where it is not whole.

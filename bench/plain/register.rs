@@ -1,5 +1,5 @@
-//! The register of loans: counts of the codes that are out, then the used places, in rising order of their codes. Every call
-//! tests the whole area before it reads or writes a place.
+//! The register of loans: counts of the codes that are out, then the used places, in rising order of their codes, and at the
+//! end the last number. Every call tests the whole area before it reads or writes a place.
 
 use crate::doors::{code_of, Code, LONGEST_CODE};
 use crate::items;
@@ -17,12 +17,16 @@ const COUNTS: usize = 8;
 type Place = [u8; PLACE];
 /// A number, high byte first.
 type Count = [u8; 2];
+/// The record number of the last change, high byte first.
+type LastNumber = [u8; 4];
 
-/// The parts of a register, and how many of its places are used.
+/// The parts of a register, how many of its places are used, and the record number of the last change.
 pub struct Register<'a> {
     counts: &'a mut [Count],
     places: &'a mut [Place],
+    last_number: &'a mut LastNumber,
     used: usize,
+    pub last: u32,
 }
 
 pub fn is_code(bytes: &[u8]) -> bool {
@@ -78,9 +82,10 @@ fn count(places: &[Place]) -> Option<[u16; COUNTS]> {
 
 /// The counts and the places of an area that has the length of a register.
 fn parts(area: &[u8]) -> Option<(&[Count], &[Place])> {
-    let (counts, places) = area.split_at_checked(COUNTS * size_of::<Count>())?;
-    let (places, rest) = places.as_chunks();
-    (places.len() == PLACES && rest.is_empty()).then_some((counts.as_chunks().0, places))
+    let (counts, rest) = area.split_at_checked(COUNTS * size_of::<Count>())?;
+    let (places, last_number) = rest.as_chunks();
+    let whole = places.len() == PLACES && last_number.len() == size_of::<LastNumber>();
+    whole.then_some((counts.as_chunks().0, places))
 }
 
 /// The counts of an area that is a register, and its used places, or 23.
@@ -123,8 +128,21 @@ impl Register<'_> {
     /// Of an area that is a register, or 23.
     pub fn of(area: &mut [u8]) -> Result<Register<'_>, u32> {
         let used = read(area)?.1.len();
-        let (counts, places) = area.split_at_mut(COUNTS * size_of::<Count>());
-        Ok(Register { counts: counts.as_chunks_mut().0, places: places.as_chunks_mut().0, used })
+        let (counts, rest) = area.split_at_mut(COUNTS * size_of::<Count>());
+        let (places, last_number) = rest.split_last_chunk_mut().unwrap();
+        let last = u32::from_be_bytes(*last_number);
+        Ok(Register { counts: counts.as_chunks_mut().0, places: places.as_chunks_mut().0, last_number, used, last })
+    }
+
+    /// The number that the next change takes, or 26.
+    fn next(&self) -> Result<u32, u32> {
+        self.last.checked_add(1).ok_or(26)
+    }
+
+    /// A change has taken this number.
+    pub fn take(&mut self, number: u32) {
+        self.last = number;
+        *self.last_number = number.to_be_bytes();
     }
 
     /// The count of all codes and that of this one's main type change.
@@ -162,14 +180,26 @@ impl Register<'_> {
     }
 }
 
-fn issued(text: &[u8], borrower: u32, area: &mut [u8]) -> Result<(), u32> {
+fn issued(text: &[u8], borrower: u32, area: &mut [u8]) -> Result<u32, u32> {
     let code = code_of(text)?;
-    Register::of(area)?.put_out(&code, borrower)
+    let mut register = Register::of(area)?;
+    let number = register.next()?;
+    register.put_out(&code, borrower)?;
+    register.take(number);
+    Ok(number)
 }
 
-fn taken_back(text: &[u8], area: &mut [u8]) -> Result<(), u32> {
+fn taken_back(text: &[u8], area: &mut [u8]) -> Result<u32, u32> {
     let code = code_of(text)?;
-    Register::of(area)?.put_back(&code)
+    let mut register = Register::of(area)?;
+    let number = register.next()?;
+    register.put_back(&code)?;
+    register.take(number);
+    Ok(number)
+}
+
+fn changed(answer: Result<u32, u32>) -> (u32, u32) {
+    answer.map_or_else(|number| (number, 0), |taken| (0, taken))
 }
 
 /// Who has the code, if it is out, and how many places were looked at.
@@ -180,14 +210,16 @@ fn asked(text: &[u8], area: &[u8]) -> Result<(Option<u32>, u32), u32> {
     Ok((place.ok().map(|at| u32::from_be_bytes(*used[at].last_chunk().unwrap())), looks))
 }
 
+/// The number, the record number that the change took.
 #[inline(never)]
-pub fn issue(text: &[u8], borrower: u32, area: &mut [u8]) -> u32 {
-    issued(text, borrower, area).err().unwrap_or(0)
+pub fn issue(text: &[u8], borrower: u32, area: &mut [u8]) -> (u32, u32) {
+    changed(issued(text, borrower, area))
 }
 
+/// The number, the record number that the change took.
 #[inline(never)]
-pub fn take_back(text: &[u8], area: &mut [u8]) -> u32 {
-    taken_back(text, area).err().unwrap_or(0)
+pub fn take_back(text: &[u8], area: &mut [u8]) -> (u32, u32) {
+    changed(taken_back(text, area))
 }
 
 /// The number, the borrower, the looks.

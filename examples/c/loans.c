@@ -1,8 +1,8 @@
 /*
  * The loans register, as a counter keeps it: a code is issued, asked for, refused to a second
  * borrower and taken back, typed in several ways; the morning sheet says how many are out. Every
- * answer is told, a refusal with its number and a sentence. The exit status is 1 where an answer is
- * not the one that is due.
+ * answer is told, a change with its record number, a refusal with its number and a sentence. The
+ * exit status is 1 where an answer is not the one that is due.
  *
  *   ./install target/installed
  *   export PKG_CONFIG_PATH=$PWD/target/installed/lib/pkgconfig
@@ -29,20 +29,24 @@ static void tell(uint32_t number, const char *done) {
     else printf("refused %u: %s\n", (unsigned)number, iscc_refusal_text(number));
 }
 
-static uint32_t issue(const char *typed, uint32_t borrower) {
-    const uint8_t *text = (const uint8_t *)typed;
-    uint32_t number = loans_issue(text, strlen(typed), borrower, area, sizeof area);
-    printf("issue %s to %u: ", typed, (unsigned)borrower);
-    tell(number, "done");
-    return number;
+/* The same of a change: one that is done has the next record number, a refused one has none. */
+static loans_changed tell_change(loans_changed changed) {
+    char done[40];
+    snprintf(done, sizeof done, "done, record number %u", (unsigned)changed.record_number);
+    tell(changed.number, done);
+    return changed;
 }
 
-static uint32_t take_back(const char *typed) {
+static loans_changed issue(const char *typed, uint32_t borrower) {
     const uint8_t *text = (const uint8_t *)typed;
-    uint32_t number = loans_return(text, strlen(typed), area, sizeof area);
+    printf("issue %s to %u: ", typed, (unsigned)borrower);
+    return tell_change(loans_issue(text, strlen(typed), borrower, area, sizeof area));
+}
+
+static loans_changed take_back(const char *typed) {
+    const uint8_t *text = (const uint8_t *)typed;
     printf("return %s: ", typed);
-    tell(number, "done");
-    return number;
+    return tell_change(loans_return(text, strlen(typed), area, sizeof area));
 }
 
 /* A borrower may be any number, 0 too: only the answer's own number says whether there is one. */
@@ -77,12 +81,12 @@ int main(void) {
     const char *composite = "ISCC:KUAG2PRCRS5LNVZVJKAFAVOJXLZZM";
     const char *other = "MAAGZTFQTTVIZPJR";
 
-    if (issue(label, 1204) != ISCC_OK) return 1;
+    if (issue(label, 1204).record_number != 1) return 1;
     if (ask(typed).borrower != 1204) return 1;
-    if (issue(composite, 77) != ISCC_ALREADY_OUT) return 1;
-    if (issue(other, 77) != ISCC_OK) return 1;
+    if (issue(composite, 77).number != ISCC_ALREADY_OUT) return 1;
+    if (issue(other, 77).record_number != 2) return 1;
     if (sheet().out != 2) return 1;
-    if (take_back(typed) != ISCC_OK) return 1;
+    if (take_back(typed).record_number != 3) return 1;
     if (ask(label).number != ISCC_NOT_OUT) return 1;
     if (sheet().out != 1) return 1;
     return 0;

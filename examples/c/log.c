@@ -1,8 +1,9 @@
 /*
  * The pending issues log, as a counter writes it and a standby in another hall reads it: two codes
  * are issued and one is taken back, each change with its record. The log is torn off inside the
- * last record; the standby makes its register from what came through, and again when the rest has
- * come. The exit status is 1 where an answer is not the one that is due.
+ * last record; the standby makes its register from what came through. It replays the whole log when
+ * the rest has come, and once more, which changes nothing. The exit status is 1 where an answer is
+ * not the one that is due.
  *
  *   ./install target/installed
  *   export PKG_CONFIG_PATH=$PWD/target/installed/lib/pkgconfig
@@ -39,40 +40,42 @@ static int has_room(void) {
     return sizeof records - position >= LOANS_LOG_RECORD_MOST;
 }
 
-/* Behind a change: its record. What was changed had a code, and there is room. */
-static void logged(iscc_written record) {
-    printf("done, and logged in %u bytes\n", (unsigned)record.length);
+/* Behind a change: its record, with the number that it was told. There is room for it. */
+static void logged(uint32_t record_number, iscc_written record) {
+    printf("done, record number %u logged\n", (unsigned)record_number);
     position += record.length;
 }
 
 static uint32_t issue(const char *typed, uint32_t borrower) {
     const uint8_t *text = (const uint8_t *)typed;
     uint8_t code[ISCC_CODE_AREA];
-    uint32_t number = ISCC_AREA_TOO_SHORT;
+    loans_changed done = {ISCC_AREA_TOO_SHORT, 0};
     printf("counter: issue %s to %u: ", typed, (unsigned)borrower);
-    if (has_room()) number = loans_issue(text, strlen(typed), borrower, counter, sizeof counter);
-    if (number != ISCC_OK) {
-        tell(number, "");
+    if (has_room()) done = loans_issue(text, strlen(typed), borrower, counter, sizeof counter);
+    if (done.number != ISCC_OK) {
+        tell(done.number, "");
     } else {
         size_t length = iscc_code(text, strlen(typed), code, sizeof code).length;
-        logged(loans_log_issue(records, sizeof records, position, code, length, borrower));
+        logged(done.record_number, loans_log_issue(records, sizeof records, position,
+                                                   done.record_number, code, length, borrower));
     }
-    return number;
+    return done.number;
 }
 
 static uint32_t take_back(const char *typed) {
     const uint8_t *text = (const uint8_t *)typed;
     uint8_t code[ISCC_CODE_AREA];
-    uint32_t number = ISCC_AREA_TOO_SHORT;
+    loans_changed done = {ISCC_AREA_TOO_SHORT, 0};
     printf("counter: return %s: ", typed);
-    if (has_room()) number = loans_return(text, strlen(typed), counter, sizeof counter);
-    if (number != ISCC_OK) {
-        tell(number, "");
+    if (has_room()) done = loans_return(text, strlen(typed), counter, sizeof counter);
+    if (done.number != ISCC_OK) {
+        tell(done.number, "");
     } else {
         size_t length = iscc_code(text, strlen(typed), code, sizeof code).length;
-        logged(loans_log_return(records, sizeof records, position, code, length));
+        logged(done.record_number, loans_log_return(records, sizeof records, position,
+                                                    done.record_number, code, length));
     }
-    return number;
+    return done.number;
 }
 
 static uint32_t ask(const char *typed) {
@@ -85,11 +88,11 @@ static uint32_t ask(const char *typed) {
     return holder.number;
 }
 
-/* The standby replays this part of the log, which starts at a record, and says how it ended. */
-static loans_replayed replay(size_t from, size_t to) {
-    loans_replayed answer = loans_replay(records + from, to - from, standby, sizeof standby);
-    unsigned at = (unsigned)(from + answer.offset);
-    printf("standby: replay of bytes %u to %u: ", (unsigned)from, (unsigned)(to - 1));
+/* The standby replays the log, always from its start, as far as it has come; and how it ended. */
+static loans_replayed replay(size_t length) {
+    loans_replayed answer = loans_replay(records, length, standby, sizeof standby);
+    unsigned at = (unsigned)answer.offset;
+    printf("standby: replay of %u bytes: ", (unsigned)length);
     if (answer.end == LOANS_RAN) printf("every record is applied\n");
     if (answer.end == LOANS_TORN) printf("torn: the record at byte %u is not whole\n", at);
     if (answer.end == LOANS_STOPPED) printf("stopped by the record at byte %u: ", at);
@@ -101,21 +104,24 @@ int main(void) {
     const char *label = "GAAW2PRCRS5LNVZV-IAAUVACQKXE3V44W";
     const char *typed = "iscc:iaauvacqkxe3v44w-gaaw2prcrs5lnvzv";
     const char *other = "MAAGZTFQTTVIZPJR";
-    loans_replayed torn;
 
     if (issue(label, 1204) != ISCC_OK) return 1;
     if (issue(other, 77) != ISCC_OK) return 1;
     if (take_back(typed) != ISCC_OK) return 1;
 
     /* The last five bytes are still on their way. */
-    torn = replay(0, position - 5);
-    if (torn.number != ISCC_OK || torn.end != LOANS_TORN) return 1;
+    if (replay(position - 5).end != LOANS_TORN) return 1;
     if (ask(label) != ISCC_OK || ask(other) != ISCC_OK) return 1;
 
-    /* Once they have come, it goes on where the torn record starts. */
-    if (replay(torn.offset, position).end != LOANS_RAN) return 1;
+    /* Once they have come, the whole log: records that are applied already are skipped. */
+    if (replay(position).end != LOANS_RAN) return 1;
     if (ask(label) != ISCC_NOT_OUT || ask(other) != ISCC_OK) return 1;
     if (memcmp(standby, counter, sizeof standby) != 0) return 1;
     printf("both registers are the same\n");
+
+    /* A second time nothing is left to do. */
+    if (replay(position).end != LOANS_RAN) return 1;
+    if (memcmp(standby, counter, sizeof standby) != 0) return 1;
+    printf("both registers are still the same\n");
     return 0;
 }

@@ -85,6 +85,8 @@ class Refusal(enum.IntEnum):
     NOT_OUT = 22
     NOT_REGISTER = 23
     NOT_RECORD = 24
+    NUMBER_GAP = 25
+    NUMBERS_SPENT = 26
 
 
 class Refused(ValueError):
@@ -209,7 +211,7 @@ def _written(call: Callable[..., _Written], data: bytes, area: int) -> bytes:
 
 
 def version() -> str:
-    """The version of the library, as '0.6.0'."""
+    """The version of the library, as '0.7.0'."""
     number = int(_library().iscc_version())
     return f"{number >> 16}.{number >> 8 & 255}.{number & 255}"
 

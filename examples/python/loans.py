@@ -3,23 +3,30 @@
     import loans
 
     register = loans.Register()
-    register.issue("GAAW2PRCRS5LNVZV-IAAUVACQKXE3V44W", 1204)
+    register.issue("GAAW2PRCRS5LNVZV-IAAUVACQKXE3V44W", 1204)   # 1: the record number
     register.ask("iscc:iaauvacqkxe3v44w-gaaw2prcrs5lnvzv")      # 1204
     register.find("iscc:iaauvacqkxe3v44w-gaaw2prcrs5lnvzv")     # Found(borrower=1204, looks=1)
     register.counts().out                                       # 1
-    register.take_back("ISCC:KUAG2PRCRS5LNVZVJKAFAVOJXLZZM")
+    register.take_back("ISCC:KUAG2PRCRS5LNVZVJKAFAVOJXLZZM")    # 2
+    register.last_number()                                      # 2
 
-A counter writes a record for each change that its register accepts; another hall replays the log:
+A counter writes a record for each change that its register accepts, with the record number that it
+told; another hall replays the log, as often as it likes:
 
     log = loans.Log(bytearray(65536))
-    log.issue(iscc.code("GAAW2PRCRS5LNVZV-IAAUVACQKXE3V44W"), 1204)
-    log.take_back(iscc.code("ISCC:KUAG2PRCRS5LNVZVJKAFAVOJXLZZM"))
+    log.issue(1, iscc.code("GAAW2PRCRS5LNVZV-IAAUVACQKXE3V44W"), 1204)
+    log.take_back(2, iscc.code("ISCC:KUAG2PRCRS5LNVZVJKAFAVOJXLZZM"))
 
     standby = loans.Register()
-    standby.replay(log.records()[:-1])      # 25: the record that starts there is torn
+    standby.replay(log.records()[:-1])      # 29: the record that starts there is torn
+    standby.replay(log.records())           # None: it ran to the end
+    standby.replay(log.records())           # None: all was applied already, and nothing changes
 
-It stands on the module iscc, which finds the library and says what a text or a code may be: a
-program needs both files. Where the library refuses, iscc.Refused is raised, and the register and
+A register is to be fed from one source: it takes live calls, or it is made from the log of another.
+loans.h says why.
+
+The module stands on the module iscc, which finds the library and says what a text or a code may be:
+a program needs both files. Where the library refuses, iscc.Refused is raised, and the register and
 the log are as they were; only a replay that is stopped keeps what it did before.
 """
 
@@ -36,11 +43,19 @@ import iscc
 
 __all__ = ["AREA", "RECORD_MOST", "Area", "Counts", "Found", "Log", "Register", "Stopped"]
 
-AREA = 12304  # the length of a register in bytes
-RECORD_MOST = 49  # the longest record of a log in bytes
+AREA = 12308  # the length of a register in bytes
+RECORD_MOST = 53  # the longest record of a log in bytes
+_LAST_NUMBER_OFFSET = 12304  # where the four bytes of the last number start
 _TORN, _STOPPED = 2, 3  # how a replay can end, in loans.h
-_OLDEST = 0x0600  # version 0.6.0: before it a register had no counts
+_OLDEST = 0x0700  # version 0.7.0: before it records had no numbers
 Area = Union[bytearray, memoryview, mmap.mmap]
+
+
+class _Changed(ctypes.Structure):
+    _fields_ = [
+        ("number", ctypes.c_uint32),
+        ("record_number", ctypes.c_uint32),
+    ]
 
 
 class _Holder(ctypes.Structure):
@@ -112,12 +127,13 @@ def _declare(library: ctypes.CDLL) -> None:
     area = [ctypes.c_void_p, ctypes.c_size_t]
     library.loans_issue.argtypes = [*text, ctypes.c_uint32, *area]
     library.loans_return.argtypes = library.loans_ask.argtypes = text + area
-    library.loans_issue.restype = library.loans_return.restype = ctypes.c_uint32
+    library.loans_issue.restype = library.loans_return.restype = _Changed
     library.loans_ask.restype = _Holder
     library.loans_counts.argtypes = area
     library.loans_counts.restype = _Counted
-    library.loans_log_return.argtypes = [*area, ctypes.c_size_t, *text]
-    library.loans_log_issue.argtypes = [*area, ctypes.c_size_t, *text, ctypes.c_uint32]
+    record = [*area, ctypes.c_size_t, ctypes.c_uint32, *text]
+    library.loans_log_return.argtypes = record
+    library.loans_log_issue.argtypes = [*record, ctypes.c_uint32]
     library.loans_log_return.restype = library.loans_log_issue.restype = iscc._Written
     library.loans_replay.argtypes = text + area
     library.loans_replay.restype = _Replayed
@@ -127,7 +143,7 @@ def _declare(library: ctypes.CDLL) -> None:
 def _library() -> ctypes.CDLL:
     library = iscc._library()
     if library.iscc_version() < _OLDEST:
-        said = f"{library._name} has version {iscc.version()}; this module needs 0.6.0 or later"
+        said = f"{library._name} has version {iscc.version()}; this module needs 0.7.0 or later"
         raise iscc.WrongLibrary(said)
     try:
         _declare(library)
@@ -161,6 +177,11 @@ def _lent(area: Area) -> tuple[Any, int]:
     return (ctypes.c_char * length).from_buffer(area), length
 
 
+def _tested_last(area: Any, length: int) -> tuple[int, bytes]:
+    # What stands there is a last number only where the area is a register, which the counts say.
+    return _library().loans_counts(area, length).number, area[_LAST_NUMBER_OFFSET:length]
+
+
 def _check_number(number: int) -> None:
     if number:
         raise iscc.Refused(number)
@@ -181,16 +202,22 @@ class Register:
         _check_area("register", self.area)
         self._lock = threading.Lock()
 
-    def issue(self, text: iscc.Text, borrower: int) -> None:
-        """Issues a code to a borrower, a 32-bit number. Refused: intake's numbers, 23, 20, 21."""
+    def issue(self, text: iscc.Text, borrower: int) -> int:
+        """Issues a code to a borrower, a 32-bit number, and tells the change's record number.
+
+        Refused: intake's numbers, 23, 26 (no number is left), 20, 21.
+        """
         _check_borrower(borrower)
         data = iscc._text_bytes(text)
-        _check_number(self._call(_library().loans_issue, data, len(data), borrower))
+        return self._change(_library().loans_issue, data, len(data), borrower)
 
-    def take_back(self, text: iscc.Text) -> None:
-        """Takes a code back, whoever has it. Refused: intake's numbers, 23, 22 (not out)."""
+    def take_back(self, text: iscc.Text) -> int:
+        """Takes a code back, whoever has it, and tells the change's record number.
+
+        Refused: intake's numbers, 23, 26 (no number is left), 22 (not out).
+        """
         data = iscc._text_bytes(text)
-        _check_number(self._call(_library().loans_return, data, len(data)))
+        return self._change(_library().loans_return, data, len(data))
 
     def ask(self, text: iscc.Text) -> int:
         """The borrower who has a code. Refused: intake's numbers, 23, 22 (not out)."""
@@ -212,12 +239,19 @@ class Register:
         _check_number(counted.number)
         return Counts(*(getattr(counted, name) for name in Counts._fields))
 
+    def last_number(self) -> int:
+        """The record number of the last change, 0 where there was none. Refused: 23."""
+        number, last = self._call(_tested_last)
+        _check_number(number)
+        return int.from_bytes(last, "big")
+
     def replay(self, log: iscc.Bytes) -> int | None:
-        """Applies the records of a log, from the left.
+        """Applies the records of a log, from the left, and skips those that are applied already.
 
         None where it ran to the log's end. Where the log is torn, the offset of the record that is
         not whole; those before it are applied. Where a record cannot be applied, Stopped is raised,
-        with 24, 20, 21 or 22, and those before it stay applied. Refused: 23, before all else.
+        with 24, 25 (a record is missing before it), 20, 21 or 22, and those before it stay applied.
+        Refused: 23, before all else.
         """
         data = _log_bytes(log)
         answer: _Replayed = self._call(_library().loans_replay, data, len(data))
@@ -225,6 +259,11 @@ class Register:
             raise Stopped(answer.number, answer.offset)
         _check_number(answer.number)
         return answer.offset if answer.end == _TORN else None
+
+    def _change(self, call: Callable[..., Any], *given: bytes | int) -> int:
+        changed: _Changed = self._call(call, *given)
+        _check_number(changed.number)
+        return changed.record_number
 
     def _ask(self, text: iscc.Text) -> _Holder:
         data = iscc._text_bytes(text)
@@ -260,23 +299,27 @@ class Log:
         self.position = position
         self._lock = threading.Lock()
 
-    def issue(self, code: iscc.Bytes, borrower: int) -> None:
-        """Writes that a code was issued to a borrower. Refused: 24, 15 (no room)."""
-        _check_borrower(borrower)
-        self._append(_library().loans_log_issue, code, borrower)
+    def issue(self, record_number: int, code: iscc.Bytes, borrower: int) -> None:
+        """Writes that a code was issued to a borrower; the register told the record number.
 
-    def take_back(self, code: iscc.Bytes) -> None:
-        """Writes that a code was taken back. Refused: 24, 15 (no room)."""
-        self._append(_library().loans_log_return, code)
+        Refused: 24, also for record number 0; 15 (no room).
+        """
+        _check_borrower(borrower)
+        self._append(_library().loans_log_issue, record_number, code, borrower)
+
+    def take_back(self, record_number: int, code: iscc.Bytes) -> None:
+        """Writes that a code was taken back. The record number and the refusals are as in issue."""
+        self._append(_library().loans_log_return, record_number, code)
 
     def records(self) -> bytes:
         """The log alone, as a register replays it."""
         return bytes(memoryview(self.area)[: self.position])
 
-    def _append(self, call: Callable[..., Any], code: iscc.Bytes, *more: int) -> None:
+    def _append(self, call: Callable[..., Any], number: int, code: iscc.Bytes, *more: int) -> None:
+        _check_range("record number", number, 2**32 - 1)
         data = iscc._code_bytes(code)
         with self._lock:
             _check_range("position", self.position, 2 ** (8 * ctypes.sizeof(ctypes.c_size_t)) - 1)
-            written = call(*_lent(self.area), self.position, data, len(data), *more)
+            written = call(*_lent(self.area), self.position, number, data, len(data), *more)
             _check_number(written.number)
             self.position += written.length

@@ -32,6 +32,7 @@ from test_iscc import HERE, TOP, TYPED, WRITTEN, Call, answer  # noqa: E402
 HEADER = (TOP / "include" / "loans.h").read_text("ascii")
 PLACES = 256
 COUNTS = 16  # bytes before the places
+LAST = 4  # bytes of the last number, behind the places
 WIDE = "ISCC:K4AAAAICAMCAKBQHBAEQUCYMBUHA6EARCIJRIFIWC4MBSGQ3DQOR4HY"
 ID = "MAAGZTFQTTVIZPJR"
 
@@ -46,11 +47,17 @@ def place_of(code: bytes, borrower: int) -> bytes:
     return bytes([len(code)]) + code.ljust(43, b"\0") + borrower.to_bytes(4, "big")
 
 
-def area_of(places: list[bytes]) -> bytes:
-    """The register of these places, which are in order: counts, places, free places."""
+def area_of(places: list[bytes], last: int) -> bytes:
+    """The register of these places, which are in order: counts, places, free ones, last number."""
     counts = [len(places)] + [sum(place[1] >> 4 == kind for place in places) for kind in range(7)]
     numbers = b"".join(count.to_bytes(2, "big") for count in counts)
-    return (numbers + b"".join(places)).ljust(loans.AREA, b"\0")
+    return (numbers + b"".join(places)).ljust(loans.AREA - LAST, b"\0") + last.to_bytes(LAST, "big")
+
+
+def numbered(register: loans.Register, last: int) -> loans.Register:
+    """The register with another last number."""
+    register.area[-LAST:] = last.to_bytes(LAST, "big")
+    return register
 
 
 def looks_for(index: int, out: list[int]) -> int:
@@ -83,6 +90,10 @@ class Header(unittest.TestCase):
         found = re.search(r"^#define LOANS_COUNTS_BYTES (\d+)$", HEADER, re.MULTILINE)
         assert found
         self.assertEqual(COUNTS, int(found[1]))
+        found = re.search(r"^#define LOANS_LAST_NUMBER_OFFSET (\d+)$", HEADER, re.MULTILINE)
+        assert found
+        self.assertEqual(loans._LAST_NUMBER_OFFSET, int(found[1]))
+        self.assertEqual(loans._LAST_NUMBER_OFFSET + LAST, loans.AREA)
 
     def fields(self, name: str) -> list[str]:
         """The fields of a struct whose fields are all 32-bit numbers."""
@@ -91,8 +102,10 @@ class Header(unittest.TestCase):
         return re.findall(r"^    uint32_t (\w+);$", found[1], re.MULTILINE)
 
     def test_structs(self) -> None:
+        changed = [field[0] for field in loans._Changed._fields_]
         holder = [field[0] for field in loans._Holder._fields_]
         counted = [field[0] for field in loans._Counted._fields_]
+        self.assertEqual(self.fields("loans_changed"), changed)
         self.assertEqual(self.fields("loans_holder"), holder)
         self.assertEqual(self.fields("loans_counted"), counted)
         self.assertEqual(counted, ["number", *loans.Counts._fields])
@@ -120,17 +133,17 @@ class Calls(unittest.TestCase):
 
     def test_one_code(self) -> None:
         register = loans.Register()
-        for borrower in (0, 1204, 2**32 - 1):
-            register.issue(TYPED, borrower)
+        for turn, borrower in enumerate((0, 1204, 2**32 - 1)):
+            self.assertEqual(register.issue(TYPED, borrower), 2 * turn + 1)
             for text in (TYPED, TYPED.upper().encode(), WRITTEN):
                 self.assertEqual(register.ask(text), borrower)
                 self.assertEqual(register.find(text), (borrower, 1))
                 self.refused(register, 20, register.issue, text, 7)
-            register.take_back(WRITTEN)
+            self.assertEqual(register.take_back(WRITTEN), 2 * turn + 2)
             self.assertEqual(register.find(TYPED), loans.Found(borrower=None, looks=0))
             self.refused(register, 22, register.ask, TYPED)
             self.refused(register, 22, register.take_back, TYPED)
-            self.assertEqual(bytes(register.area), bytes(loans.AREA))
+            self.assertEqual(bytes(register.area), area_of([], 2 * turn + 2))
 
     def test_layout(self) -> None:
         register = loans.Register()
@@ -138,7 +151,8 @@ class Calls(unittest.TestCase):
         code = iscc.code(TYPED)
         place = bytes([len(code)]) + code.ljust(43, b"\0") + bytes([1, 2, 3, 4])
         counts = bytes([0, 1, *bytes(10), 0, 1, 0, 0])
-        self.assertEqual(bytes(register.area), (counts + place).ljust(loans.AREA, b"\0"))
+        free = bytes(255 * 48)
+        self.assertEqual(bytes(register.area), counts + place + free + bytes([0, 0, 0, 1]))
 
     def test_order(self) -> None:
         register = loans.Register()
@@ -146,10 +160,37 @@ class Calls(unittest.TestCase):
         for index in (3, 1, 4, 2):
             register.issue(label(index), index)
             places[index] = place_of(iscc.code(label(index)), index)
-            due = area_of([places[out] for out in sorted(places)])
+            due = area_of([places[out] for out in sorted(places)], len(places))
             self.assertEqual(bytes(register.area), due)
         register.take_back(label(2))
-        self.assertEqual(bytes(register.area), area_of([places[1], places[3], places[4]]))
+        self.assertEqual(bytes(register.area), area_of([places[1], places[3], places[4]], 5))
+
+    def test_last_number(self) -> None:
+        register = loans.Register()
+        self.assertEqual(register.last_number(), 0)
+        for last in (0, 1, 255, 0x01020304, 2**32 - 4):
+            numbered(register, last)
+            self.assertEqual(register.last_number(), last)
+            self.assertEqual(register.issue(TYPED, 5), last + 1)
+            self.refused(register, 20, register.issue, TYPED, 5)
+            self.assertEqual(register.take_back(TYPED), last + 2)
+            self.refused(register, 22, register.take_back, TYPED)
+            self.assertEqual(register.last_number(), last + 2)
+
+    def test_numbers_spent(self) -> None:
+        register = numbered(loans.Register(), 2**32 - 2)
+        self.assertEqual(register.issue(TYPED, 5), 2**32 - 1)
+        self.refused(register, 26, register.issue, ID, 5)
+        self.refused(register, 26, register.issue, TYPED, 5)  # before 20
+        self.refused(register, 26, register.take_back, TYPED)
+        self.refused(register, 26, register.take_back, ID)  # before 22
+        self.refused(register, 4, register.take_back, "GAA0")
+        self.assertEqual((register.ask(TYPED), register.last_number()), (5, 2**32 - 1))
+        self.refused(register, 22, register.ask, ID)  # a question takes no number
+        everything = numbered(full(), 2**32 - 1)
+        self.refused(everything, 26, everything.issue, WRITTEN, 1)  # before 21
+        everything.area[1] ^= 1
+        self.refused(everything, 23, everything.issue, WRITTEN, 1)
 
     def test_counts(self) -> None:
         register = loans.Register()
@@ -203,18 +244,20 @@ class Calls(unittest.TestCase):
             self.refused(register, number, register.find, text)
 
     def test_not_a_register(self) -> None:
-        whole, one = bytes(full().area), area_of([place_of(iscc.code(TYPED), 1)])
+        whole, one = bytes(full().area), area_of([place_of(iscc.code(TYPED), 1)], 1)
         first, second = whole[16:64], whole[64:112]
         areas = [b"", whole[:-1], whole + b"\0"]
-        areas += [whole[COUNTS:], bytes(loans.AREA - COUNTS)]  # as they were before 0.6
+        areas += [whole[:-LAST], bytes(loans.AREA - LAST)]  # as they were before 0.7
+        areas += [whole[COUNTS:-LAST], bytes(loans.AREA - COUNTS - LAST)]  # and before 0.6
         areas.append(whole[:16] + bytes([43]) + whole[17:])
         areas.append(whole[:16] + second + first + whole[112:])
-        areas.append(one[:16] + bytes(48) + one[16:-48])
+        areas.append(one[:16] + bytes(48) + one[16 : -48 - LAST] + one[-LAST:])
         for offset in range(COUNTS):
             areas.append(whole[:offset] + bytes([whole[offset] ^ 1]) + whole[offset + 1 :])
         for area in areas:
             register = loans.Register(bytearray(area))
             self.refused(register, 23, register.counts)
+            self.refused(register, 23, register.last_number)
             self.refused(register, 23, register.issue, TYPED, 1)
             self.refused(register, 23, register.take_back, TYPED)
             self.refused(register, 23, register.ask, TYPED)
@@ -229,6 +272,7 @@ class Areas(unittest.TestCase):
         register = loans.Register(memoryview(area)[48:-48])
         register.issue(TYPED, 5)
         self.assertEqual(area[:50], bytes(49) + bytes([1]))
+        self.assertEqual(area[-52:], bytes([0, 0, 0, 1]) + bytes(48))
         self.assertEqual(loans.Register(area[48:-48]).ask(TYPED), 5)
 
     def test_in_a_file(self) -> None:
@@ -274,67 +318,87 @@ class Log(unittest.TestCase):
 
     def setUp(self) -> None:
         self.code = iscc.code(TYPED)
-        self.log = loans.Log(bytearray(b"\xee" * 46))
+        self.log = loans.Log(bytearray(b"\xee" * 54))
 
     def written(self) -> bytes:
         """The specification's log: the code goes to borrower 258 and comes back."""
-        self.log.issue(self.code, 258)
-        self.log.take_back(self.code)
+        self.log.issue(1, self.code, 258)
+        self.log.take_back(2, self.code)
         return self.log.records()
 
     def test_records(self) -> None:
-        issue = bytes.fromhex("01 0016 00000102") + self.code
-        self.assertEqual(self.written(), issue + bytes.fromhex("02 0012") + self.code)
-        self.assertEqual(self.log.position, 46)
+        issue = bytes.fromhex("03 001a 00000001 00000102") + self.code
+        self.assertEqual(self.written(), issue + bytes.fromhex("04 0016 00000002") + self.code)
+        self.assertEqual(self.log.position, 54)
         self.assertEqual(bytes(self.log.area), self.log.records())
 
+    def test_any_number(self) -> None:
+        self.log.take_back(2**32 - 1, self.code)
+        self.assertEqual(self.log.records(), bytes.fromhex("04 0016 ffffffff") + self.code)
+
     def test_refused(self) -> None:
-        before = b"\xee" * 46
+        before = b"\xee" * 54
         for code, number in ((b"", 24), (self.code + b"\0", 24), (self.code[:-1], 24)):
-            self.assertEqual(answer(self.log.take_back, code), number)
-            self.assertEqual(answer(self.log.issue, code, 1), number)
-        for position in (22, 46, 47, 2**64 - 1):
+            self.assertEqual(answer(self.log.take_back, 1, code), number)
+            self.assertEqual(answer(self.log.issue, 1, code, 1), number)
+        for position in (0, 26, 54, 55):
             log = loans.Log(bytearray(before), position)
-            self.assertEqual(answer(log.issue, self.code, 1), 15)
+            self.assertEqual(answer(log.issue, 0, self.code, 1), 24)  # before 15
+            self.assertEqual(answer(log.take_back, 0, self.code), 24)
+            self.assertEqual((log.position, bytes(log.area)), (position, before))
+        for position in (26, 54, 55, 2**64 - 1):
+            log = loans.Log(bytearray(before), position)
+            self.assertEqual(answer(log.issue, 1, self.code, 1), 15)
             self.assertEqual((log.position, bytes(log.area)), (position, before))
         self.assertEqual((self.log.position, bytes(self.log.area)), (0, before))
 
     def test_every_cut(self) -> None:
-        records, fresh = self.written(), bytes(loans.AREA)
-        issued = loans.Register()
-        issued.issue(TYPED, 258)
-        for cut in range(47):
+        records = self.written()
+        issued, back = loans.Register(), loans.Register()
+        for register in (issued, back):
+            register.issue(TYPED, 258)
+        back.take_back(TYPED)
+        for cut in range(55):
             register = loans.Register()
-            torn = None if cut in (0, 25, 46) else 0 if cut < 25 else 25
+            torn = None if cut in (0, 29, 54) else 0 if cut < 29 else 29
             self.assertEqual(register.replay(records[:cut]), torn, cut)
-            due = bytes(issued.area) if 25 <= cut < 46 else fresh
-            self.assertEqual(bytes(register.area), due, cut)
+            due = loans.Register() if cut < 29 else issued if cut < 54 else back
+            self.assertEqual(bytes(register.area), bytes(due.area), cut)
+            self.assertIsNone(register.replay(records))  # the whole log again: it goes on
+            self.assertEqual(bytes(register.area), bytes(back.area), cut)
+            self.assertEqual(register.replay(records[:cut]), torn, cut)  # and nothing changes
+            self.assertEqual(bytes(register.area), bytes(back.area), cut)
 
     def test_live_run(self) -> None:
         live, log = loans.Register(), loans.Log(bytearray(PLACES * loans.RECORD_MOST))
+
+        def issue(index: int, borrower: int) -> None:
+            log.issue(live.issue(label(index), borrower), iscc.code(label(index)), borrower)
+
         for index in range(100):
-            live.issue(label(index), index)
-            log.issue(iscc.code(label(index)), index)
+            issue(index, index)
             if index % 3 == 0:
-                live.take_back(label(index // 2 * 2))
-                log.take_back(iscc.code(label(index // 2 * 2)))
-                live.issue(label(index // 2 * 2), index)
-                log.issue(iscc.code(label(index // 2 * 2)), index)
+                other = index // 2 * 2
+                log.take_back(live.take_back(label(other)), iscc.code(label(other)))
+                issue(other, index)
         standby = loans.Register()
-        self.assertIsNone(standby.replay(log.records()))
-        self.assertEqual(standby.area, live.area)
+        for _ in range(2):
+            self.assertIsNone(standby.replay(log.records()))
+            self.assertEqual(standby.area, live.area)
         self.assertEqual(standby.counts(), loans.Counts(100, 0, 0, 0, 100, 0, 0, 0))
+        self.assertEqual(standby.last_number(), 168)
 
     def test_counts(self) -> None:
         log = loans.Log(bytearray(6 * loans.RECORD_MOST))
-        for text in (TYPED, WIDE, ID, label(1)):
-            log.issue(iscc.code(text), 5)
-        log.take_back(iscc.code(WIDE))
-        log.take_back(iscc.code(WIDE))  # not out any more: it stops the replay
+        for number, text in enumerate((TYPED, WIDE, ID, label(1)), 1):
+            log.issue(number, iscc.code(text), 5)
+        log.take_back(5, iscc.code(WIDE))
+        log.take_back(6, iscc.code(WIDE))  # not out any more: it stops the replay
         register = loans.Register()
         self.assertEqual(answer(register.replay, log.records()), 22)
         due = loans.Counts(3, meta=0, semantic=0, content=0, data=1, instance=0, iscc=1, id=1)
         self.assertEqual(register.counts(), due)
+        self.assertEqual(register.last_number(), 5)
 
     def stops(self, register: loans.Register, log: bytes, number: int, offset: int) -> None:
         with self.assertRaises(loans.Stopped) as caught:
@@ -343,18 +407,67 @@ class Log(unittest.TestCase):
         said = f"the record at byte {offset} stops the replay: {iscc.Refused(number)}"
         self.assertEqual(str(caught.exception), said)
 
+    def made(self, *records: tuple[int, int | None]) -> bytes:
+        """A log of this code: the number of each record and its borrower, None for a return."""
+        log = loans.Log(bytearray(len(records) * loans.RECORD_MOST))
+        for number, borrower in records:
+            if borrower is None:
+                log.take_back(number, self.code)
+            else:
+                log.issue(number, self.code, borrower)
+        return log.records()
+
     def test_stopped(self) -> None:
-        records = self.written()
-        issue, back = records[:25], records[25:]
         register = loans.Register()
-        self.stops(register, issue + issue + back, 20, 25)
-        self.assertEqual(register.ask(TYPED), 258)
-        self.stops(register, back + back + issue, 22, 21)
-        self.stops(register, bytes(3) + issue, 24, 0)
-        self.assertEqual(register.area, bytearray(loans.AREA))
+        self.stops(register, self.made((1, 258), (2, 7), (3, None)), 20, 29)
+        self.assertEqual((register.ask(TYPED), register.last_number()), (258, 1))
+        self.stops(register, self.made((2, None), (3, None), (4, 7)), 22, 25)
+        self.stops(register, bytes(3) + self.made((1, 258)), 24, 0)
+        self.assertEqual(bytes(register.area), area_of([], 2))
         everything = full()
-        self.stops(everything, issue, 21, 0)
+        self.stops(everything, self.made((257, 258)), 21, 0)
         self.assertEqual(everything.area, full().area)
+
+    def test_gap(self) -> None:
+        register = loans.Register()
+        for number in (2, 3, 2**32 - 1):
+            self.stops(register, self.made((number, 5)), 25, 0)
+            self.assertEqual(bytes(register.area), bytes(loans.AREA))
+        self.stops(register, self.made((1, 258), (3, 258)), 25, 29)  # before 20
+        self.assertEqual((register.ask(TYPED), register.last_number()), (258, 1))
+        self.assertIsNone(register.replay(self.made((1, 258), (2, None), (3, 259))))
+        self.assertEqual((register.ask(TYPED), register.last_number()), (259, 3))
+
+    def test_skipped(self) -> None:
+        register = loans.Register()
+        self.assertEqual(register.issue(TYPED, 5), 1)
+        before = bytes(register.area)
+        # Numbers alone are compared: the live call took number 1, whatever record 1 says.
+        self.assertIsNone(register.replay(self.made((1, None), (1, 77), (1, 5))))
+        self.assertEqual(bytes(register.area), before)
+        self.assertIsNone(register.replay(self.made((1, None), (2, None))))
+        self.assertEqual(bytes(register.area), area_of([], 2))
+        # A damaged record stops the replay, also where its number is applied already.
+        issue = self.made((1, 258))
+        for damaged in (issue[:3] + bytes(4) + issue[7:], b"\x05" + issue[1:], b"\x04" + issue[1:]):
+            self.stops(register, issue + damaged, 24, 29)
+        self.assertEqual(bytes(register.area), area_of([], 2))
+
+    def test_all_numbers_applied(self) -> None:
+        register = numbered(loans.Register(), 2**32 - 1)
+        before = bytes(register.area)
+        self.assertIsNone(register.replay(self.made((1, 5), (7, None), (2**32 - 1, 5))))
+        self.assertEqual(bytes(register.area), before)
+        numbered(register, 2**32 - 2)
+        self.assertIsNone(register.replay(self.made((2**32 - 1, 5))))
+        self.assertEqual((register.ask(TYPED), register.last_number()), (5, 2**32 - 1))
+
+    def test_older_log(self) -> None:
+        older = bytes.fromhex("01 0016 00000102") + self.code + bytes.fromhex("02 0012") + self.code
+        register = loans.Register()
+        self.stops(register, older, 24, 0)
+        self.stops(register, older[25:], 24, 0)
+        self.assertEqual(bytes(register.area), bytes(loans.AREA))
 
     def test_pickled(self) -> None:
         stopped = pickle.loads(pickle.dumps(loans.Stopped(22, 21)))
@@ -362,21 +475,22 @@ class Log(unittest.TestCase):
 
     def test_not_a_register(self) -> None:
         for log in (b"", bytes(3), self.written()):
-            register = loans.Register(bytearray(loans.AREA + 1))
-            self.assertEqual(answer(register.replay, log), 23)
-            self.assertEqual(register.area, bytearray(loans.AREA + 1))
+            for length in (loans.AREA + 1, loans.AREA - LAST):
+                register = loans.Register(bytearray(length))
+                self.assertEqual(answer(register.replay, log), 23)
+                self.assertEqual(register.area, bytearray(length))
 
     def test_in_a_file(self) -> None:
         with tempfile.TemporaryFile() as file:
             file.truncate(100)
             with mmap.mmap(file.fileno(), 0) as area:
                 log = loans.Log(area)
-                log.issue(self.code, 5)
+                log.issue(1, self.code, 5)
                 file.seek(0)
-                self.assertEqual(file.read(25), log.records())
+                self.assertEqual(file.read(29), log.records())
             file.seek(0)
             register = loans.Register()
-            self.assertIsNone(register.replay(file.read(25)))
+            self.assertIsNone(register.replay(file.read(29)))
             self.assertEqual(register.ask(TYPED), 5)
 
     def test_other_arguments(self) -> None:
@@ -384,11 +498,17 @@ class Log(unittest.TestCase):
         said = "^a log is a bytearray, a memoryview or an mmap, not bytes$"
         self.assertRaisesRegex(TypeError, said, make, bytes(100))
         issue: Call = self.log.issue
-        self.assertRaisesRegex(TypeError, "^a code is bytes, not str; code", issue, TYPED, 5)
-        self.assertRaisesRegex(ValueError, "^a borrower is from 0 to ", issue, self.code, 2**32)
+        self.assertRaisesRegex(TypeError, "^a code is bytes, not str; code", issue, 1, TYPED, 5)
+        self.assertRaisesRegex(ValueError, "^a borrower is from 0 to ", issue, 1, self.code, 2**32)
+        for number in (-1, 2**32):
+            said = f"^a record number is from 0 to 4294967295, not {number}$"
+            self.assertRaisesRegex(ValueError, said, issue, number, self.code, 5)
+            self.assertRaisesRegex(ValueError, said, self.log.take_back, number, self.code)
+        said = "^a record number is an int, not bytes$"
+        self.assertRaisesRegex(TypeError, said, issue, self.code, 1, 5)
         for position in (-1, 2**64):
             back: Call = loans.Log(bytearray(100), position).take_back
-            self.assertRaisesRegex(ValueError, "^a position is from 0 to ", back, self.code)
+            self.assertRaisesRegex(ValueError, "^a position is from 0 to ", back, 1, self.code)
         replay: Call = loans.Register().replay
         self.assertRaisesRegex(TypeError, "^a log to be replayed is bytes, not str$", replay, "")
 
@@ -408,13 +528,16 @@ class Threads(unittest.TestCase):
         register, labels = loans.Register(), [label(index) for index in range(PLACES)]
         start = threading.Barrier(8)
 
+        told: list[int] = []
+
         def work(own: int) -> None:
             start.wait()
             for index in range(own, PLACES, 8):
-                register.issue(labels[index], index)
+                told.append(register.issue(labels[index], index))
 
         self.at_once(work)
         self.assertEqual([answer(register.ask, text) for text in labels], list(range(PLACES)))
+        self.assertEqual(sorted(told), list(range(1, PLACES + 1)))
 
     def test_one_at_a_time(self) -> None:
         register = loans.Register()
@@ -431,22 +554,30 @@ class Threads(unittest.TestCase):
         self.assertEqual(counts, [1] * 8)
 
     def test_one_log(self) -> None:
-        log, start = loans.Log(bytearray(17 * PLACES)), threading.Barrier(8)
+        log, start, lock = loans.Log(bytearray(21 * PLACES)), threading.Barrier(8), threading.Lock()
         codes = [iscc.code(label(index)) for index in range(PLACES)]
+        live, both = loans.Register(), loans.Log(bytearray(21 * PLACES))
 
         def work(own: int) -> None:
             start.wait()
             for index in range(own, PLACES, 8):
-                log.issue(codes[index], index)
+                log.issue(index + 1, codes[index], index)
+                with lock:  # over a change and its record
+                    both.issue(live.issue(label(index), index), codes[index], index)
 
         self.at_once(work)
+        written = log.records()
+        records = [written[start : start + 21] for start in range(0, len(written), 21)]
         register = loans.Register()
-        self.assertIsNone(register.replay(log.records()))
+        self.assertIsNone(register.replay(b"".join(sorted(records))))
         self.assertEqual([register.ask(label(i)) for i in range(PLACES)], list(range(PLACES)))
+        standby = loans.Register()
+        self.assertIsNone(standby.replay(both.records()))
+        self.assertEqual(standby.area, live.area)
 
 
 class Library(unittest.TestCase):
-    """A library of an older version, whose register has no counts, or one without a register."""
+    """A library of an older version, whose records have no numbers, or one without a register."""
 
     def older(self, minor: int, headers: str) -> tuple[str, str]:
         """The path of a library with the calls of these headers, and what a question says of it."""
@@ -463,13 +594,13 @@ class Library(unittest.TestCase):
         return older, said
 
     def test_without_register(self) -> None:
-        older, said = self.older(6, test_iscc.HEADER)
+        older, said = self.older(7, test_iscc.HEADER)
         self.assertIn(f"WrongLibrary: {older} has no loans register or no log", said)
 
-    def test_without_counts(self) -> None:
+    def test_without_numbers(self) -> None:
         for headers in (test_iscc.HEADER + HEADER, test_iscc.HEADER):
-            older, said = self.older(5, headers)
-            due = f"WrongLibrary: {older} has version 0.5.0; this module needs 0.6.0 or later"
+            older, said = self.older(6, headers)
+            due = f"WrongLibrary: {older} has version 0.6.0; this module needs 0.7.0 or later"
             self.assertIn(due, said)
 
 

@@ -340,7 +340,10 @@ static const struct {
     {"loans_counts_by_name", loans_counts_by_name},
     {"loans_counts_carried", loans_counts_carried},
     {"loans_wrong_counts", loans_wrong_counts},
-    {"loans_without_counts", loans_without_counts},
+    {"loans_older", loans_older},
+    {"loans_numbers", loans_numbers},
+    {"loans_first_number", loans_first_number},
+    {"loans_numbers_spent", loans_numbers_spent},
     {"loans_only_read", loans_only_read},
     {"log_records", log_records},
     {"log_codes", log_codes},
@@ -354,6 +357,14 @@ static const struct {
     {"log_counts", log_counts},
     {"log_not_a_register", log_not_a_register},
     {"log_only_read", log_only_read},
+    {"log_numbers", log_numbers},
+    {"log_gaps", log_gaps},
+    {"log_skips", log_skips},
+    {"log_skipped_damage", log_skipped_damage},
+    {"log_again", log_again},
+    {"log_live_number", log_live_number},
+    {"log_spent", log_spent},
+    {"log_older", log_older},
 };
 
 static int usage(void) {

@@ -38,9 +38,11 @@ static const char *const due[] = {
     "This code is not out.",
     "The register is damaged, or this is no register.",
     "This is no record of the log.",
+    "A record is missing before this one.",
+    "No record number is left: this register takes no more changes.",
     "There is no such number.",
 };
-typedef char one_for_each[sizeof due / sizeof due[0] == ISCC_NOT_RECORD + 2 ? 1 : -1];
+typedef char one_for_each[sizeof due / sizeof due[0] == ISCC_NUMBERS_SPENT + 2 ? 1 : -1];
 
 static void expect(int holds, const char *what, uint32_t number) {
     if (holds) return;
@@ -81,14 +83,17 @@ static void check_words(uint32_t number) {
 static void check_register(void) {
     static uint8_t area[LOANS_REGISTER_AREA];
     const uint8_t *text = (const uint8_t *)"GAAAAAAAAA";
-    expect(loans_issue(text, 10, 5, area, sizeof area) == ISCC_OK, "not issued", 5);
+    loans_changed changed = loans_issue(text, 10, 5, area, sizeof area);
+    expect(changed.number == ISCC_OK && changed.record_number == 1, "not issued", 5);
     expect(loans_ask(text, 10, area, sizeof area).borrower == 5, "another borrower", 5);
     expect(loans_ask(text, 10, area, sizeof area).looks == 1, "other looks", 1);
     expect(loans_counts(area, sizeof area).out == 1, "another count", 1);
     expect(loans_counts(area, sizeof area).data == 1, "another count of DATA", 1);
-    expect(loans_counts(area, sizeof area - LOANS_COUNTS_BYTES).number == ISCC_NOT_REGISTER,
+    expect(loans_counts(area, LOANS_LAST_NUMBER_OFFSET).number == ISCC_NOT_REGISTER,
            "counts of a shorter area", ISCC_NOT_REGISTER);
-    expect(loans_return(text, 10, area, sizeof area) == ISCC_OK, "not taken back", 5);
+    changed = loans_return(text, 10, area, sizeof area);
+    expect(changed.number == ISCC_OK && changed.record_number == 2, "not taken back", 5);
+    expect(area[LOANS_LAST_NUMBER_OFFSET + 3] == 2, "another last number", 2);
     expect(loans_ask(text, 10, area, sizeof area).number == ISCC_NOT_OUT, "still out", 5);
     expect(loans_ask(text, 10, area, sizeof area).looks == 0, "other looks", 0);
     expect(loans_counts(area, sizeof area).number == ISCC_OK, "no counts", 0);
@@ -99,19 +104,25 @@ static void check_log(void) {
     static uint8_t area[LOANS_REGISTER_AREA];
     static const uint8_t code[] = {0x30, 0, 0, 0, 0, 0};
     uint8_t log[2 * LOANS_LOG_RECORD_MOST];
-    size_t first = loans_log_issue(log, sizeof log, 0, code, sizeof code, 5).length;
-    size_t second = loans_log_return(log, sizeof log, first, code, sizeof code).length;
+    size_t first = loans_log_issue(log, sizeof log, 0, 1, code, sizeof code, 5).length;
+    size_t second = loans_log_return(log, sizeof log, first, 2, code, sizeof code).length;
     loans_replayed answer = loans_replay(log, first + second - 1, area, sizeof area);
-    expect(first == 13 && second == 9, "other records", 5);
+    expect(first == 17 && second == 13, "other records", 5);
     expect(answer.number == ISCC_OK && answer.end == LOANS_TORN, "no tear", answer.end);
     expect(answer.offset == first, "another offset", (uint32_t)answer.offset);
     expect(area[LOANS_COUNTS_BYTES] == sizeof code, "not replayed", 5);
     expect(area[LOANS_COUNTS_BYTES + 47] == 5, "another borrower", 5);
     expect(area[1] == 1 && area[9] == 1, "not counted", 1);
+    expect(area[LOANS_LAST_NUMBER_OFFSET + 3] == 1, "another last number", 1);
+    answer = loans_replay(log, first + second, area, sizeof area);
+    expect(answer.number == ISCC_OK && answer.end == LOANS_RAN, "not replayed again", answer.end);
+    log[first + 6] = 4;
+    answer = loans_replay(log, first + second, area, sizeof area);
+    expect(answer.number == ISCC_NUMBER_GAP && answer.offset == first, "no gap", answer.number);
 }
 
 int main(void) {
-    const uint32_t unknown = ISCC_NOT_RECORD + 1;
+    const uint32_t unknown = ISCC_NUMBERS_SPENT + 1;
     uint32_t number;
     check_version();
     check_register();

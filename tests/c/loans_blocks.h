@@ -5,9 +5,11 @@
 #include "expect.h"
 #include "loans.h"
 
-/* The bytes of a register, of its counts and of a place, once more: the header's numbers are held against these. */
-enum { REGISTER = 12304, COUNTS = 16, PLACES = 256, PLACE = 48 };
+/* The bytes of a register, of its counts, of a place and of the last number, which starts at LAST, once more: the header's
+ * numbers are held against these. */
+enum { REGISTER = 12308, COUNTS = 16, PLACES = 256, PLACE = 48, LAST = 12304, LAST_BYTES = 4 };
 _Static_assert(LOANS_REGISTER_AREA == REGISTER && LOANS_COUNTS_BYTES == COUNTS, "the layout");
+_Static_assert(LOANS_LAST_NUMBER_OFFSET == LAST && LAST + LAST_BYTES == REGISTER, "the last number");
 _Static_assert(LOANS_PLACES == PLACES && LOANS_PLACE_BYTES == PLACE, "the places");
 
 /* One code typed in three ways, and what a place holds of it. */
@@ -36,10 +38,32 @@ static const uint8_t id_code[] = {0x60, 0x00, 0x6c, 0xcc, 0xb0, 0x9c, 0xea, 0x8c
 
 typedef enum { ISSUE, RETURN, ASK } loans_call;
 
+/* The greatest record number. */
+#define SPENT 0xffffffffu
+
+/* What a call tells: an issue and a return no borrower and no looks, a question no record number. */
+typedef struct {
+    uint32_t number;
+    uint32_t borrower;
+    uint32_t looks;
+    uint32_t record_number;
+} loans_told;
+
 static uint8_t *fresh_register(void) {
     uint8_t *area = calloc(1, REGISTER);
     if (area == NULL) abort();
     return area;
+}
+
+/* The last number of a register. */
+static uint32_t last_of(const uint8_t *area) {
+    uint32_t last = 0;
+    for (int i = 0; i < LAST_BYTES; i++) last = last << 8 | area[LAST + i];
+    return last;
+}
+
+static void put_last(uint8_t *area, uint32_t last) {
+    for (int i = 0; i < LAST_BYTES; i++) area[LAST + i] = (uint8_t)(last >> (24 - 8 * i));
 }
 
 static size_t offset_of(size_t place) {
@@ -112,36 +136,39 @@ static uint32_t looks_for_typed(const uint8_t *area, const char *typed) {
 }
 
 /* The answer that has a number alone: all but success and 22 of a question. */
-static loans_holder only(uint32_t number) {
-    return (loans_holder){number, 0, 0};
+static loans_told only(uint32_t number) {
+    return (loans_told){.number = number};
 }
 
-/* The bare call; an issue and a return tell no borrower and no looks. */
-static loans_holder answer_of(loans_call call, const uint8_t *text, size_t text_len, uint32_t borrower, uint8_t *area,
-                              size_t area_len) {
-    loans_holder answer = only(0);
-    if (call == ISSUE) answer.number = loans_issue(text, text_len, borrower, area, area_len);
-    if (call == RETURN) answer.number = loans_return(text, text_len, area, area_len);
-    if (call == ASK) answer = loans_ask(text, text_len, area, area_len);
-    return answer;
+/* The bare call. */
+static loans_told answer_of(loans_call call, const uint8_t *text, size_t text_len, uint32_t borrower, uint8_t *area,
+                            size_t area_len) {
+    if (call == ASK) {
+        loans_holder held = loans_ask(text, text_len, area, area_len);
+        return (loans_told){.number = held.number, .borrower = held.borrower, .looks = held.looks};
+    }
+    loans_changed changed = call == ISSUE ? loans_issue(text, text_len, borrower, area, area_len)
+                                          : loans_return(text, text_len, area, area_len);
+    return (loans_told){.number = changed.number, .record_number = changed.record_number};
 }
 
 /* A call that must answer `due` and leave `after` in the area, each area being a heap block of just its length. */
 static void call_leaves(loans_call call, const void *text, size_t text_len, uint32_t borrower, uint8_t *area, size_t area_len,
-                        loans_holder due, const uint8_t *after, const char *of) {
+                        loans_told due, const uint8_t *after, const char *of) {
     const char *numbers[] = {"number of issue", "number of return", "number of ask"};
     uint8_t *typed = copy_of(text, text_len);
-    loans_holder answer = answer_of(call, typed, text_len, borrower, area, area_len);
+    loans_told answer = answer_of(call, typed, text_len, borrower, area, area_len);
     expect_same(numbers[call], answer.number, due.number, of);
     expect_same("borrower", answer.borrower, due.borrower, of);
     expect_same("looks", answer.looks, due.looks, of);
+    expect_same("record number", answer.record_number, due.record_number, of);
     if (area_len > 0) expect(memcmp(area, after, area_len) == 0, "other bytes in the register", of);
     if (text_len > 0) expect(memcmp(typed, text, text_len) == 0, "the text was changed", of);
     free(typed);
 }
 
 /* A call that leaves every byte of the area. */
-static void call_keeps(loans_call call, const void *text, size_t text_len, uint8_t *area, size_t area_len, loans_holder due,
+static void call_keeps(loans_call call, const void *text, size_t text_len, uint8_t *area, size_t area_len, loans_told due,
                        const char *of) {
     uint8_t *before = copy_of(area, area_len);
     call_leaves(call, text, text_len, 0x5a5a5a5a, area, area_len, due, before, of);
@@ -181,18 +208,22 @@ static void not_counted(const uint8_t *area, size_t area_len, const char *of) {
     counted(area, area_len, (loans_counted){.number = ISCC_NOT_REGISTER}, of);
 }
 
-/* An issue that is accepted: this is its place in the order. */
+/* An issue that is accepted: this is its place in the order, and its number is the next. */
 static void issue_takes(uint8_t *area, size_t place, const char *typed, uint32_t borrower, const uint8_t *code, uint8_t length) {
+    loans_told due = {.record_number = last_of(area) + 1};
     uint8_t *after = copy_of(area, REGISTER);
     make_room(after, place, code, length, borrower);
-    call_leaves(ISSUE, typed, strlen(typed), borrower, area, REGISTER, only(ISCC_OK), after, typed);
+    put_last(after, due.record_number);
+    call_leaves(ISSUE, typed, strlen(typed), borrower, area, REGISTER, due, after, typed);
     free(after);
 }
 
 static void return_closes(uint8_t *area, size_t place, const char *typed) {
+    loans_told due = {.record_number = last_of(area) + 1};
     uint8_t *after = copy_of(area, REGISTER);
     close_gap(after, place);
-    call_leaves(RETURN, typed, strlen(typed), 0, area, REGISTER, only(ISCC_OK), after, typed);
+    put_last(after, due.record_number);
+    call_leaves(RETURN, typed, strlen(typed), 0, area, REGISTER, due, after, typed);
     free(after);
 }
 
@@ -201,14 +232,22 @@ static void issue_refused(uint8_t *area, const char *typed, uint32_t number) {
 }
 
 static void has(uint8_t *area, const char *typed, uint32_t borrower) {
-    loans_holder due = {ISCC_OK, borrower, looks_for_typed(area, typed)};
+    loans_told due = {.borrower = borrower, .looks = looks_for_typed(area, typed)};
     call_keeps(ASK, typed, strlen(typed), area, REGISTER, due, typed);
 }
 
-static void not_out(uint8_t *area, const char *typed) {
-    loans_holder due = {ISCC_NOT_OUT, 0, looks_for_typed(area, typed)};
-    call_keeps(RETURN, typed, strlen(typed), area, REGISTER, only(ISCC_NOT_OUT), typed);
+static void not_found(uint8_t *area, const char *typed) {
+    loans_told due = {.number = ISCC_NOT_OUT, .looks = looks_for_typed(area, typed)};
     call_keeps(ASK, typed, strlen(typed), area, REGISTER, due, typed);
+}
+
+static void return_refused(uint8_t *area, const char *typed, uint32_t number) {
+    call_keeps(RETURN, typed, strlen(typed), area, REGISTER, only(number), typed);
+}
+
+static void not_out(uint8_t *area, const char *typed) {
+    return_refused(area, typed, ISCC_NOT_OUT);
+    not_found(area, typed);
 }
 
 /* All three calls refuse with this number. */
@@ -258,7 +297,8 @@ static void loans_places(void) {
     return_closes(area, 2, COMPOSITE);
     return_closes(area, 0, SHORTEST);
     return_closes(area, 0, LONGEST);
-    expect(all_are(area, REGISTER, 0), "not empty again", "all came back");
+    expect(all_are(area, LAST, 0), "not empty again", "all came back");
+    expect_same("last number", last_of(area), 12, "all came back");
     free(area);
 }
 
@@ -362,8 +402,8 @@ static void loans_four(void) {
     for (size_t i = 0; i < 4; i++) issue_row(area, 2 * i + 1, i);
     for (size_t i = 0; i < 9; i++) {
         code_of_row(i, code, text);
-        loans_holder due = i % 2 == 1 ? (loans_holder){ISCC_OK, (uint32_t)i, found[i / 2]}
-                                      : (loans_holder){ISCC_NOT_OUT, 0, between[i / 2]};
+        loans_told due = i % 2 == 1 ? (loans_told){.borrower = (uint32_t)i, .looks = found[i / 2]}
+                                    : (loans_told){.number = ISCC_NOT_OUT, .looks = between[i / 2]};
         call_keeps(ASK, text, strlen(text), area, REGISTER, due, text);
     }
     free(area);
@@ -466,10 +506,12 @@ static void loans_texts(void) {
     free(damaged);
 }
 
-/* Zeros are a register in one length alone: without the counts they were one before version 0.6. */
+/* Zeros are a register in one length alone: without the last number they were one before version 0.7, and before version 0.6
+ * without the counts too. */
 static void loans_lengths(void) {
-    const size_t lengths[] = {1, COUNTS, PLACE, REGISTER - PLACE, REGISTER - COUNTS, REGISTER - 1, REGISTER + 1,
-                              REGISTER + COUNTS, REGISTER + PLACE, 2 * REGISTER};
+    const size_t lengths[] = {1, LAST_BYTES, COUNTS, PLACE, REGISTER - PLACE, REGISTER - COUNTS, LAST - COUNTS, LAST,
+                              REGISTER - 1, REGISTER + 1, REGISTER + LAST_BYTES, REGISTER + COUNTS, REGISTER + PLACE,
+                              2 * REGISTER};
     for (size_t i = 0; i < sizeof lengths / sizeof *lengths; i++) {
         uint8_t *area = calloc(1, lengths[i]);
         if (area == NULL) abort();
@@ -523,7 +565,7 @@ static void loans_damaged(void) {
         {2 * PLACE + 43, 1, "zero byte of a free place"},
         {2 * PLACE + 44, 1, "borrower of a free place"},
         {PLACES * PLACE - PLACE, 5, "length of the last place"},
-        {PLACES * PLACE - 1, 1, "last byte"},
+        {PLACES * PLACE - 1, 1, "last byte of the last place"},
     };
     for (size_t i = 0; i < sizeof damages / sizeof *damages; i++) {
         uint8_t *area = two_out();
@@ -740,20 +782,95 @@ static void loans_wrong_counts(void) {
     free(area);
 }
 
-/* A register of a version before 0.6: its places alone, with codes out. */
-static void loans_without_counts(void) {
-    uint8_t *area = two_out(), *older = copy_of(area + COUNTS, REGISTER - COUNTS);
-    all_refuse(COMPOSITE, strlen(COMPOSITE), older, REGISTER - COUNTS, ISCC_NOT_REGISTER, "no counts");
-    not_counted(older, REGISTER - COUNTS, "no counts");
-    counted(area, REGISTER, (loans_counted){.out = 2, .iscc = 2}, "with its counts");
+/* Registers of older versions, with codes out: before 0.7 they had no last number, before 0.6 no counts either. */
+static void loans_older(void) {
+    uint8_t *area = two_out(), *places = copy_of(area + COUNTS, LAST - COUNTS), *unnumbered = copy_of(area, LAST);
+    all_refuse(COMPOSITE, strlen(COMPOSITE), places, LAST - COUNTS, ISCC_NOT_REGISTER, "places alone");
+    not_counted(places, LAST - COUNTS, "places alone");
+    all_refuse(COMPOSITE, strlen(COMPOSITE), unnumbered, LAST, ISCC_NOT_REGISTER, "no last number");
+    not_counted(unnumbered, LAST, "no last number");
+    counted(area, REGISTER, (loans_counted){.out = 2, .iscc = 2}, "with counts and last number");
     free(area);
-    free(older);
+    free(places);
+    free(unnumbered);
+}
+
+/* Each change takes the next number, stands for it in the register and tells it, whatever byte of it changes; a refused one
+ * takes none and tells 0. A question and the counts leave it, and take every last number. */
+static void loans_numbers(void) {
+    const uint32_t lasts[] = {0, 1, 0xfe, 0xff, 0xffff, 0xffffff, 0x01020304, 0x7fffffff, 0x80000000, 0xfffffffd};
+    for (size_t i = 0; i < sizeof lasts / sizeof *lasts; i++) {
+        uint8_t *area = two_out();
+        put_last(area, lasts[i]);
+        has(area, COMPOSITE, 1);
+        counted(area, REGISTER, (loans_counted){.out = 2, .iscc = 2}, "any last number");
+        issue_refused(area, COMPOSITE, ISCC_ALREADY_OUT);
+        issue_refused(area, "GAA0", ISCC_BAD_CHARACTER);
+        return_refused(area, SHORTEST, ISCC_NOT_OUT);
+        issue_takes(area, 0, SHORTEST, 7, shortest_code, sizeof shortest_code);
+        expect_same("last number", last_of(area), lasts[i] + 1, "an issue");
+        issue_refused(area, SHORTEST, ISCC_ALREADY_OUT);
+        has(area, SHORTEST, 7);
+        return_closes(area, 2, UNITS);
+        expect_same("last number", last_of(area), lasts[i] + 2, "a return");
+        return_refused(area, UNITS, lasts[i] == SPENT - 2 ? ISCC_NUMBERS_SPENT : ISCC_NOT_OUT);
+        free(area);
+    }
+}
+
+/* By hand: the first record number is 1, and it stands high byte first, behind the places. */
+static void loans_first_number(void) {
+    const uint8_t second[LAST_BYTES] = {0, 0, 0, 2}, carried[LAST_BYTES] = {1, 3, 0, 0};
+    uint8_t *area = fresh_register();
+    expect_same("record number", loans_issue((const uint8_t *)AN_ID, 16, 5, area, REGISTER).record_number, 1, "an issue");
+    expect_same("record number", loans_return((const uint8_t *)AN_ID, 16, area, REGISTER).record_number, 2, "a return");
+    expect(memcmp(area + LAST, second, LAST_BYTES) == 0, "another last number", "two changes");
+    put_last(area, 0x0102ffff);
+    expect_same("record number", loans_issue((const uint8_t *)AN_ID, 16, 5, area, REGISTER).record_number, 0x01030000,
+                "a carry");
+    expect(memcmp(area + LAST, carried, LAST_BYTES) == 0, "another last number", "a carry");
+    free(area);
+}
+
+/* No number is left: 26 for every issue and return, before 20 to 22 and behind the text's numbers and 23. Questions and counts
+ * go on. */
+static void loans_numbers_spent(void) {
+    uint8_t *area = two_out(), *full = fresh_register(), code[10];
+    char text[ISCC_TEXT_AREA + 1];
+    put_last(area, SPENT);
+    issue_refused(area, SHORTEST, ISCC_NUMBERS_SPENT);
+    issue_refused(area, COMPOSITE, ISCC_NUMBERS_SPENT);
+    return_refused(area, COMPOSITE, ISCC_NUMBERS_SPENT);
+    return_refused(area, SHORTEST, ISCC_NUMBERS_SPENT);
+    has(area, COMPOSITE, 1);
+    not_found(area, SHORTEST);
+    counted(area, REGISTER, (loans_counted){.out = 2, .iscc = 2}, "no number left");
+    all_refuse("GAA0", 4, area, REGISTER, ISCC_BAD_CHARACTER, "no number left");
+    all_refuse("", 0, area, REGISTER, ISCC_EMPTY_TEXT, "no number left");
+    put_count(area, 0, 3);
+    not_a_register(area, "no number left, and a wrong count");
+    for (size_t i = 0; i < PLACES; i++) {
+        code_of_row(i, code, text);
+        put_place(full, i, code, sizeof code, 7);
+    }
+    put_last(full, SPENT);
+    issue_refused(full, COMPOSITE, ISCC_NUMBERS_SPENT);
+    issue_refused(full, text, ISCC_NUMBERS_SPENT);
+    return_refused(full, text, ISCC_NUMBERS_SPENT);
+    put_last(full, SPENT - 1);
+    issue_refused(full, COMPOSITE, ISCC_ALL_OUT);
+    return_closes(full, PLACES - 1, text);
+    expect_same("last number", last_of(full), SPENT, "the last number there is");
+    issue_refused(full, text, ISCC_NUMBERS_SPENT);
+    free(area);
+    free(full);
 }
 
 /* A question writes nothing, not even the bytes that are there, and neither do the counts: this register lies where nobody may
  * write. It may also lie over the text: here the body of a code spells another one. */
 static void loans_only_read(void) {
     static const uint8_t area[REGISTER] = {
+        [LAST] = 0xff, 0xff, 0xff, 0xff,
         [1] = 2, [9] = 2,
         [COUNTS] = 6, 0x30, 0x00, 0xff, 0x00, 0x00, 0x01, [COUNTS + 44] = 0, 0, 1, 2,
         [COUNTS + PLACE] = 18, 0x30, 0x03, 'G', 'A', 'A', 'P', '6', 'A', 'A', 'A', 'A', 'E', ' ', ' ', ' ', ' ', ' ', ' ',

@@ -4,12 +4,25 @@ use crate::random::Random;
 use crate::{codes, counts, records, texts};
 use harness::area::places;
 use harness::call::{Call, Request};
-use reference::register::{place_of, BORROWER, CODE, COUNTS, LENGTH, PLACE, PLACES, ZERO};
+use reference::register::{place_of, BORROWER, CODE, COUNTS, LAST, LENGTH, PLACE, PLACES, ZERO};
 
 /// Any borrower; those at the ends of a byte or a sign more often.
 pub fn borrower(random: &mut Random) -> u32 {
     let any = random.next() as u32;
     random.pick(&[any, any, any, 0, 1, 255, 256, 1 << 31, u32::MAX])
+}
+
+/// Any number of a last record: none yet, those at the ends of a byte, and those about the greatest more often.
+pub fn last_number(random: &mut Random) -> u32 {
+    let any = random.next() as u32;
+    let borders = [1, 254, 255, 256, 65_534, 65_535, 65_536, (1 << 24) - 1, 1 << 24, (1 << 31) - 1, 1 << 31];
+    let border = random.pick(&borders);
+    random.pick(&[0, 0, 0, border, border, border, any, any, u32::MAX - 3, u32::MAX - 2, u32::MAX - 1, u32::MAX, u32::MAX])
+}
+
+/// Makes this the number of the last record.
+pub fn put_last(area: &mut [u8], number: u32) {
+    area[LAST..LENGTH].copy_from_slice(&number.to_be_bytes());
 }
 
 /// A register, and codes of which so many as are out come first, in their order.
@@ -44,6 +57,7 @@ pub fn register_of(random: &mut Random, used: usize) -> Filled {
         bytes_of(&mut area, place).copy_from_slice(&place_of(code, borrower));
     }
     counts::put(&mut area);
+    put_last(&mut area, last_number(random));
     Filled { area, codes, used }
 }
 
@@ -65,6 +79,9 @@ fn chosen(random: &mut Random, filled: &Filled) -> Vec<u8> {
 pub fn request(random: &mut Random, call: Call) -> Request {
     let filled = register(random);
     let mut second = filled.area.clone();
+    if call == Call::Issue && filled.used == PLACES && random.percent(30) {
+        put_last(&mut second, u32::MAX);
+    }
     if random.percent(55) {
         damage(random, &mut second);
     }
@@ -72,7 +89,7 @@ pub fn request(random: &mut Random, call: Call) -> Request {
         return Request { second, ..Request::new(call) };
     }
     if call == Call::Replay {
-        return Request { first: records::log(random, &filled.codes, filled.used), second, ..Request::new(call) };
+        return Request { first: records::log(random, &filled), second, ..Request::new(call) };
     }
     let code = chosen(random, &filled);
     let borrower = if call == Call::Issue { borrower(random) } else { 0 };
@@ -138,7 +155,7 @@ fn spoil_places(random: &mut Random, area: &mut [u8]) {
             bytes_of(area, place).copy_from_slice(&random.bytes(PLACE));
         }
         1 => {
-            let at = COUNTS + random.below(LENGTH - COUNTS);
+            let at = COUNTS + random.below(LAST - COUNTS);
             area[at] ^= 1 << random.below(8);
         }
         2..=3 => {
@@ -160,19 +177,20 @@ fn spoil_places(random: &mut Random, area: &mut [u8]) {
 fn put_in_order(area: &mut [u8]) {
     let mut places: Vec<Vec<u8>> = places(area).chunks(PLACE).map(<[u8]>::to_vec).collect();
     places.sort_by_cached_key(|place| (place[0] == 0, code_in(place).to_vec()));
-    area[COUNTS..].copy_from_slice(&places.concat());
+    area[COUNTS..LAST].copy_from_slice(&places.concat());
 }
 
-/// Without its counts, cut, or longer by zeros.
+/// Without its counts or its last number, cut, or longer by zeros.
 fn other_length(random: &mut Random, area: &mut Vec<u8>) {
     let any = random.below(2 * LENGTH);
     let lengths =
         [0, 1, COUNTS, PLACE, LENGTH - PLACE, LENGTH - COUNTS, LENGTH + COUNTS, LENGTH + PLACE, 2 * LENGTH, 65_536];
-    match random.below(6) {
+    match random.below(8) {
         0..=1 => drop(area.drain(..COUNTS)),
-        2 => area.truncate(LENGTH - 1),
-        3 => area.push(0),
-        4 => area.resize(any, 0),
+        2..=3 => area.truncate(LAST),
+        4 => area.truncate(LENGTH - 1),
+        5 => area.push(0),
+        6 => area.resize(any, 0),
         _ => area.resize(random.pick(&lengths), 0),
     }
 }
@@ -220,7 +238,7 @@ fn disorder(random: &mut Random, area: &mut [u8]) {
         }
         _ => random.shuffle(&mut places),
     }
-    area.fill(0);
+    area[..LAST].fill(0);
     area[COUNTS..][..places.len() * PLACE].copy_from_slice(&places.concat());
 }
 

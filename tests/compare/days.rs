@@ -1,17 +1,19 @@
 //! Days of issues, returns and replays, from the empty register on: behind each of them the first number is the accepted
-//! issues minus the accepted returns, those that replays applied among them, and the seven others sum to it. What was
-//! accepted and applied is counted here, by the answers.
+//! issues minus the accepted returns, those that replays applied among them, and the seven others sum to it; the last record
+//! number has gone up by their sum. What was accepted and applied is counted here, by the answers; what was skipped is not.
+//! At the end a log of all of it gives the day's register from the first one, and onto itself changes nothing.
 
 use crate::counts::{Outs, MANY};
 use crate::random::Random;
 use crate::records::{self, Change};
-use crate::{codes, texts, MOST_DIFFERENCES};
-use harness::area::numbers;
-use harness::call::{Call, Request, Response};
+use crate::{areas, codes, texts, MOST_DIFFERENCES};
+use harness::area::{last_number, numbers};
+use harness::call::{values, Call, Request, Response};
 use harness::expected;
 use harness::library::{Case, Library};
 use harness::tally::Tally;
 use reference::log::End;
+use reference::refusal::{NUMBERS_SPENT, NUMBER_GAP};
 use reference::register::{LENGTH, PLACES};
 use std::collections::HashSet;
 use std::ops::Range;
@@ -28,6 +30,11 @@ struct Done {
     returns: u64,
     replayed_issues: u64,
     replayed_returns: u64,
+    /// Records that replays skipped.
+    skipped: u64,
+    /// Replays that a gap stopped, and live calls for which no number was left.
+    gaps: u64,
+    spent: u64,
     /// Replays by their ends.
     ends: [u64; 4],
     outs: Outs,
@@ -45,7 +52,14 @@ struct Day<'a> {
     out: HashSet<Vec<u8>>,
     issues: u64,
     returns: u64,
+    /// The last record number at the start.
+    start: u32,
+    /// The records of all changes that were done, under the numbers that they took.
+    history: Vec<u8>,
 }
+
+/// A record of a log: its bytes, its number, and the change that it stands for if it is one.
+type Record = (Vec<u8>, u32, Option<Change>);
 
 impl Day<'_> {
     /// The answer that the reference and the library agree on.
@@ -57,8 +71,14 @@ impl Day<'_> {
         }
     }
 
+    /// The last record number, by what was done.
+    fn last(&self) -> u32 {
+        self.start + (self.issues + self.returns) as u32
+    }
+
     /// Counts an accepted change.
     fn accept(&mut self, change: &Change) {
+        self.history.extend(change.bytes(self.last() + 1));
         match change {
             Change::Issue(code, _) => {
                 self.issues += 1;
@@ -91,29 +111,41 @@ impl Day<'_> {
         if answer.number == 0 {
             self.accept(&change);
         }
+        let taken = if answer.number == 0 { self.last() } else { 0 };
+        if answer.values[0] != u64::from(taken) {
+            return Err(self.wrong(&format!("record number {}, not {taken}", answer.values[0])));
+        }
+        self.done.spent += u64::from(answer.number == NUMBERS_SPENT);
         self.leave(answer.written)
     }
 
-    /// The records of a log, with the change that each stands for: mostly such as can be done, a few that cannot, and what is
-    /// no record. Where it fills the register, more issues than there are places.
-    fn log(&mut self, fills: bool) -> Vec<(Vec<u8>, Option<Change>)> {
+    /// The records of a log, mostly such as can be done, a few that cannot, and what is no record. Some logs begin with
+    /// numbers that were applied already, some leave numbers out. Where it fills the register, more issues than there are
+    /// places.
+    fn log(&mut self, fills: bool) -> Vec<Record> {
         if fills {
-            let codes = self.codes.clone();
+            let (codes, next) = (self.codes.clone(), self.last() + 1);
             let issues = codes.iter().map(|code| Change::new(&mut self.random, true, code));
-            return issues.map(|issue| (issue.bytes(), Some(issue))).collect();
+            return issues.zip(next..).map(|(issue, number)| (issue.bytes(number), number, Some(issue))).collect();
         }
-        let (mut out, mut log) = (self.out.clone(), Vec::new());
+        let (mut out, mut log, mut last) = (self.out.clone(), Vec::new(), self.last());
+        let mut next = records::first_number(&mut self.random, last);
         for _ in 0..self.random.below(12) {
+            let number = next.saturating_add(u32::from(self.random.percent(2)));
+            next = number.saturating_add(1);
             if self.random.percent(4) {
-                log.push((records::no_record(&mut self.random, &[43, 255]), None));
+                log.push((records::no_record(&mut self.random, &[43, 255], number), number, None));
                 continue;
             }
             let change = self.change(&out);
-            match &change {
-                Change::Issue(code, _) => drop(out.insert(code.clone())),
-                Change::Return(code) => drop(out.remove(code)),
+            if number > last {
+                last = number;
+                match &change {
+                    Change::Issue(code, _) => drop(out.insert(code.clone())),
+                    Change::Return(code) => drop(out.remove(code)),
+                }
             }
-            log.push((change.bytes(), Some(change)));
+            log.push((change.bytes(number), number, Some(change)));
         }
         log
     }
@@ -121,7 +153,7 @@ impl Day<'_> {
     /// The replay of a log, some of them torn.
     fn replay(&mut self, fills: bool) -> Result<(), String> {
         let records = self.log(fills);
-        let mut first: Vec<u8> = records.iter().flat_map(|(bytes, _)| bytes.clone()).collect();
+        let mut first: Vec<u8> = records.iter().flat_map(|(bytes, ..)| bytes.clone()).collect();
         if self.random.percent(30) && !fills {
             first.truncate(self.random.below(first.len() + 1));
         }
@@ -129,23 +161,41 @@ impl Day<'_> {
         let answer = self.agreed(&request)?;
         let [end, offset, ..] = answer.values;
         self.done.ends[end as usize] += 1;
+        self.done.gaps += u64::from(answer.number == NUMBER_GAP);
         self.apply(records, if end == End::Ran as u64 { request.first.len() } else { offset as usize })?;
         self.leave(answer.written)
     }
 
-    /// Counts the records of a log that were applied: those before the place that was told.
-    fn apply(&mut self, records: Vec<(Vec<u8>, Option<Change>)>, told: usize) -> Result<(), String> {
+    /// Counts the records of a log that were applied: those before the place that was told, but for the numbers that were
+    /// applied already.
+    fn apply(&mut self, records: Vec<Record>, told: usize) -> Result<(), String> {
         let (before, mut end) = ((self.issues, self.returns), 0);
-        for (bytes, change) in records {
+        for (bytes, number, change) in records {
             end += bytes.len();
             match change {
                 _ if end > told => break,
-                Some(change) => self.accept(&change),
+                Some(_) if number <= self.last() => self.done.skipped += 1,
+                Some(change) if number - self.last() == 1 => self.accept(&change),
+                Some(_) => return Err(self.wrong("a replay went past a gap")),
                 None => return Err(self.wrong("a replay went past what is no record")),
             }
         }
         self.done.replayed_issues += self.issues - before.0;
         self.done.replayed_returns += self.returns - before.1;
+        Ok(())
+    }
+
+    /// The log of all that was done gives the day's register from the first one, and onto itself changes nothing.
+    fn close(&mut self) -> Result<(), String> {
+        let mut first = vec![0; LENGTH];
+        areas::put_last(&mut first, self.start);
+        let due = Response { values: values([End::Ran as u64]), written: self.area.clone(), ..Response::default() };
+        for second in [first, self.area.clone()] {
+            let request = Request { first: self.history.clone(), second, ..Request::new(Call::Replay) };
+            if let Some(found) = self.library.differs(&self.case, &request, &due, &crate::setting(&mut self.random)) {
+                return Err(format!(" the log of the day:{found}"));
+            }
+        }
         Ok(())
     }
 
@@ -160,6 +210,9 @@ impl Day<'_> {
         }
         if out + self.returns != self.issues {
             return Err(self.wrong(&format!("{out} out after {} issues and {} returns", self.issues, self.returns)));
+        }
+        if last_number(&self.area) != Some(self.last()) {
+            return Err(self.wrong(&format!("not last number {}, by all that was done", self.last())));
         }
         if of_types.iter().sum::<u64>() != out {
             return Err(self.wrong(&format!("{out} out, but by main type {of_types:?}")));
@@ -182,7 +235,7 @@ impl Day<'_> {
                 false => self.replay(false)?,
             }
         }
-        Ok(())
+        self.close()
     }
 }
 
@@ -198,21 +251,33 @@ fn codes_of(random: &mut Random, number: u64) -> Vec<Vec<u8>> {
     }
 }
 
+/// The last record number at the start of a day: none; in each fifth day few are left, or it crosses a byte.
+fn start_of(random: &mut Random, number: u64) -> u32 {
+    match number % 5 {
+        1 => u32::MAX - random.below(30) as u32,
+        2 => random.pick(&[250, 65_530, (1 << 24) - 5]),
+        _ => 0,
+    }
+}
+
 impl Done {
     /// What never came, where the days are not too few for it.
     fn missing(&self, days: u64) -> Vec<String> {
-        let counts = [self.replayed_issues, self.replayed_returns, self.ends[1], self.ends[2], self.ends[3]];
-        let names = ["issues by replay", "returns by replay", "a replay to the end", "a tear", "a stop"];
-        let missing =
-            names.iter().zip(counts).filter(|&(_, count)| count == 0 && days >= MANY).map(|(name, _)| name.to_string());
+        let Done { replayed_issues, replayed_returns, skipped, gaps, spent, ends, .. } = *self;
+        let counts = [replayed_issues, replayed_returns, skipped, gaps, spent, ends[1], ends[2], ends[3]];
+        let names = ["issues by replay", "returns by replay", "skipped", "25", "26", "to the end", "a tear", "a stop"];
+        let few = names.iter().zip(counts).filter(|&(_, count)| count < days / 10 && days >= MANY);
+        let missing = few.map(|(name, _)| name.to_string());
         missing.chain(self.outs.missing(days)).collect()
     }
 
     fn shown(&self) -> String {
-        let Done { issues, returns, replayed_issues, replayed_returns, ends: [_, ran, torn, stopped], outs } = self;
+        let Done { issues, returns, replayed_issues, replayed_returns, skipped, gaps, spent, .. } = self;
+        let Done { ends: [_, ran, torn, stopped], outs, .. } = self;
         let changes =
             format!("{issues} issues, {replayed_issues} by replay, {returns} returns, {replayed_returns} by replay");
-        format!("{changes}; replays ran:{ran} torn:{torn} stopped:{stopped}\n {}", outs.shown())
+        let numbers = format!("{skipped} records skipped; 25:{gaps} 26:{spent}");
+        format!("{changes}, {numbers}; replays ran:{ran} torn:{torn} stopped:{stopped}\n {}", outs.shown())
     }
 }
 
@@ -224,8 +289,10 @@ pub fn check(tally: &mut Tally, library: &mut Library, seed: u64, range: Range<u
     for number in range {
         let mut random = Random::of_case(seed, u64::MAX - 4, number);
         let (codes, case) = (codes_of(&mut random, number), Case { of: "days", number });
-        let (area, out) = (vec![0; LENGTH], HashSet::new());
-        let mut day = Day { library, case, random, done: &mut done, codes, area, out, issues: 0, returns: 0 };
+        let (mut area, out, history, start) = (vec![0; LENGTH], HashSet::new(), Vec::new(), start_of(&mut random, number));
+        areas::put_last(&mut area, start);
+        let (issues, returns) = (0, 0);
+        let mut day = Day { library, case, random, done: &mut done, codes, area, out, issues, returns, start, history };
         differences.extend(day.all().err().map(|difference| format!("\n case {number}:{difference}")));
         let (issues, returns) = (day.issues, day.returns);
         (done.issues, done.returns) = (done.issues + issues, done.returns + returns);

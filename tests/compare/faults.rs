@@ -5,12 +5,12 @@ use crate::counts;
 use harness::area::{numbers, places};
 use harness::call::{Request, Response, Values};
 use reference::refusal::NOT_REGISTER;
-use reference::register::{CODE, COUNTS, LENGTH, PLACE, ZERO};
+use reference::register::{CODE, COUNTS, LAST, LENGTH, PLACE, ZERO};
 use reference::unit;
 use std::collections::HashSet;
 
 /// The kinds, in the order of their counts.
-pub const KINDS: [&str; 42] = [
+pub const KINDS: [&str; 43] = [
     "another length",
     "length above 42",
     "no code",
@@ -53,6 +53,7 @@ pub const KINDS: [&str; 42] = [
     "code too many",
     "code too few",
     "other counts",
+    "no last number",
 ];
 const OTHER_LENGTH: usize = 0;
 const LONG: usize = 1;
@@ -83,6 +84,7 @@ const ELSEWHERE: usize = 38;
 const TOO_MANY: usize = 39;
 const TOO_FEW: usize = 40;
 const OTHER_COUNTS: usize = 41;
+const NO_LAST: usize = 42;
 
 /// Whether a case has each kind.
 pub type Found = [bool; KINDS.len()];
@@ -194,8 +196,8 @@ fn of_parts(area: &[u8]) -> [Vec<usize>; 3] {
     [of_places, of_order(&places), of_counts(numbers(area), counts::of_area(area).map(u64::from))]
 }
 
-/// What is wrong with an area of another length: the length by a byte or the counts, where with them it is a register with
-/// codes out.
+/// What is wrong with an area of another length: the length by a byte, by the counts or by the last number, where with them
+/// it is a register with codes out.
 fn of_length(area: &[u8]) -> Vec<usize> {
     let (kind, mended) = match area.len() {
         length if length + COUNTS == LENGTH => {
@@ -203,6 +205,7 @@ fn of_length(area: &[u8]) -> Vec<usize> {
             counts::put(&mut mended);
             (NO_COUNTS, mended)
         }
+        LAST => (NO_LAST, [area, &[0; LENGTH - LAST]].concat()),
         length if length + 1 == LENGTH => (BYTE_SHORT, [area, &[0]].concat()),
         length if length == LENGTH + 1 => (BYTE_MORE, area[..LENGTH].to_vec()),
         _ => return vec![OTHER_LENGTH],

@@ -1,7 +1,7 @@
 //! Inputs of about a mebibyte: no call may mind how much it is lent.
 
 use crate::random::Random;
-use crate::{codes, texts};
+use crate::{areas, codes, texts};
 use harness::call::{Call, Request};
 use reference::{base32, log, register};
 
@@ -16,7 +16,7 @@ fn list(random: &mut Random, last: Vec<u8>) -> Vec<u8> {
 }
 
 /// How many requests there are.
-pub const COUNT: u64 = 36;
+pub const COUNT: u64 = 37;
 
 pub fn requests(random: &mut Random) -> Vec<Request> {
     let mut requests = Vec::new();
@@ -51,18 +51,32 @@ pub fn requests(random: &mut Random) -> Vec<Request> {
     requests
 }
 
-/// Logs of a mebibyte, of one code that comes and goes, of zeros and of the longest records; and records far behind, or of
-/// far too long a code.
+/// The records of one code that comes and goes, one or the other by its number, up to this one.
+fn comes_and_goes(code: &[u8], last: u32) -> Vec<u8> {
+    let record = |number: u32| match number % 2 {
+        1 => log::issue_record(number, code, 7),
+        _ => log::return_record(number, code),
+    };
+    (1..=last).flat_map(record).collect()
+}
+
+/// Logs of a mebibyte, of one code that comes and goes, applied and skipped, of zeros and of the longest records; and records
+/// far behind, or of far too long a code.
 fn on_log(random: &mut Random) -> Vec<Request> {
     let code = [vec![0x50, 7], random.bytes(40)].concat();
-    let pair = [log::issue_record(&code, 7), log::return_record(&code)].concat();
+    let pair = comes_and_goes(&code, 2);
+    let long = comes_and_goes(&code, 2 * (MEBIBYTE / pair.len()) as u32);
     let longest = log::record(log::RETURN, &random.bytes(65_535));
-    let logs = [pair.repeat(MEBIBYTE / pair.len()), vec![0; MEBIBYTE], longest.repeat(16)];
+    let mut skipping = on_register(Call::Replay, long.clone(), register::LENGTH);
+    areas::put_last(&mut skipping.second, u32::MAX);
+    let logs = [long, vec![0; MEBIBYTE], longest.repeat(16)];
     let mut requests: Vec<Request> = logs.into_iter().map(|log| on_register(Call::Replay, log, register::LENGTH)).collect();
+    requests.push(skipping);
     requests.push(on_register(Call::Replay, pair, MEBIBYTE));
     for call in [Call::LogIssue, Call::LogReturn] {
-        let append = |first, position| Request { first, second: vec![0; MEBIBYTE], position, ..Request::new(call) };
-        requests.push(append(code.clone(), MEBIBYTE - 49));
+        let log = Request { second: vec![0; MEBIBYTE], record_number: 1, ..Request::new(call) };
+        let append = |first, position| Request { first, position, ..log.clone() };
+        requests.push(append(code.clone(), MEBIBYTE - 53));
         requests.push(append(vec![0; MEBIBYTE], 0));
     }
     requests

@@ -9,6 +9,7 @@ mod faults;
 mod large;
 mod lines;
 mod log;
+mod numbered;
 mod random;
 mod records;
 mod register;
@@ -210,7 +211,9 @@ fn report(tally: &mut Tally, call: Call, outcome: &Outcome) {
     if !outcome.differences.is_empty() {
         return tally.check(&name, false, format!("{} cases run{}", outcome.cases, outcome.differences.concat()));
     }
-    let few = [outcome.seen.few(call, call.numbers(), wide::kinds(call)), outcome.seen.few_on_areas(call)].concat();
+    let Outcome { seen, .. } = outcome;
+    let few = [seen.few(call, call.numbers(), wide::kinds(call)), seen.few_on_areas(call)];
+    let few = [few.concat(), seen.few_numbered(numbered::kinds(call))].concat();
     if !few.is_empty() && outcome.cases > 1 {
         return tally.check(&name, false, format!("the cases hardly reach {}", few.join(", ")));
     }

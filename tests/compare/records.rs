@@ -1,9 +1,12 @@
-//! Random records of a log: issues and returns, whole records that are none, and damaged logs.
+//! Random records of a log: issues and returns under their numbers, whole records that are none, and damaged logs.
 
+use crate::areas::Filled;
 use crate::random::Random;
 use crate::{areas, cases, codes};
+use harness::area::last_number;
 use harness::call::{Call, Request};
-use reference::log::{issue_record, record, return_record, HEAD, ISSUE, RETURN};
+use reference::log::{issue_record, record, return_record, BORROWER, HEAD, ISSUE, NUMBER, RETURN};
+use reference::register::PLACES;
 
 /// An issue, or a return.
 #[derive(Clone)]
@@ -33,33 +36,49 @@ impl Change {
         }
     }
 
-    /// Its record.
-    pub fn bytes(&self) -> Vec<u8> {
+    /// Its record in the first form, which had other tags and no number.
+    pub fn old_bytes(&self) -> Vec<u8> {
         match self {
-            Change::Issue(code, borrower) => issue_record(code, *borrower),
-            Change::Return(code) => return_record(code),
+            Change::Issue(code, borrower) => record(1, &[&borrower.to_be_bytes(), &code[..]].concat()),
+            Change::Return(code) => record(2, code),
+        }
+    }
+
+    /// Its record, under a number.
+    pub fn bytes(&self, number: u32) -> Vec<u8> {
+        match self {
+            Change::Issue(code, borrower) => issue_record(number, code, *borrower),
+            Change::Return(code) => return_record(number, code),
         }
     }
 }
 
-/// A whole record that is no issue and no return: by its tag, by too short a body, or by code bytes that are no code. Some
-/// bodies have one of these lengths.
-pub fn no_record(random: &mut Random, lengths: &[usize]) -> Vec<u8> {
+/// A whole record that is no issue and no return, though it may have this number: by its tag, an old one among them, by too
+/// short a body, by number 0, or by code bytes that are no code. Some bodies have one of these lengths.
+pub fn no_record(random: &mut Random, lengths: &[usize], number: u32) -> Vec<u8> {
     let code = if random.percent(50) { codes::unit(random) } else { codes::composite(random) };
-    let issue = [areas::borrower(random).to_be_bytes().to_vec(), code.clone()].concat();
+    let number = number.to_be_bytes();
+    let head = [number, areas::borrower(random).to_be_bytes()].concat();
+    let (issue, take_back) = ([&head[..], &code].concat(), [&number[..], &code].concat());
     let tag = random.pick(&[ISSUE, RETURN]);
-    match random.below(14) {
-        0 => record(random.pick(&[0, 3, 4, 0x81, 0xff]), &issue),
-        1 => record(random.pick(&[0, 3, 4, 0x82, 0xff]), &code),
-        2 => record(random.pick(&[0, 0, 1, 2, 3, 255]), &[]),
-        3 => record(ISSUE, &issue[..1 + random.below(4)]),
-        4 => record(tag, &[&issue[..], &[random.byte()]].concat()),
-        5 => record(RETURN, &[&code[..], &[random.byte()]].concat()),
-        6 => record(tag, &issue[..issue.len() - 1]),
-        7 => record(RETURN, &codes::units_of_composite(random).concat()),
-        8 => record(ISSUE, &[&issue[..4], &codes::units_of_composite(random).concat()].concat()),
-        9..=10 => record(RETURN, &codes::nearly_wide(random)),
-        11..=12 => record(ISSUE, &[&issue[..4], &codes::nearly_wide(random)].concat()),
+    match random.below(20) {
+        0 => record(random.pick(&[0, 1, 2, 5, 0x83, 0xff]), &issue),
+        1 => record(random.pick(&[0, 1, 2, 5, 0x84, 0xff]), &take_back),
+        // Records of the first form, which had no number.
+        2 => record(1, &issue[NUMBER..]),
+        3 => record(2, &code),
+        4 => record(random.pick(&[0, 0, 1, 2, 3, 4, 255]), &[]),
+        5 => record(ISSUE, &issue[..1 + random.below(head.len())]),
+        6 => record(RETURN, &take_back[..1 + random.below(NUMBER)]),
+        7 => record(tag, &[&issue[..], &[random.byte()]].concat()),
+        8 => record(RETURN, &[&take_back[..], &[random.byte()]].concat()),
+        9 => record(tag, &issue[..issue.len() - 1]),
+        10 => record(RETURN, &[&number[..], &codes::units_of_composite(random).concat()].concat()),
+        11 => record(ISSUE, &[&head[..], &codes::units_of_composite(random).concat()].concat()),
+        12..=13 => record(RETURN, &[&number[..], &codes::nearly_wide(random)].concat()),
+        14..=15 => record(ISSUE, &[&head[..], &codes::nearly_wide(random)].concat()),
+        16..=17 => record(ISSUE, &[&[0; NUMBER], &issue[NUMBER..]].concat()),
+        18 => record(RETURN, &[&[0; NUMBER], &code[..]].concat()),
         _ => {
             let length = random.pick(lengths);
             record(tag, &random.bytes(length))
@@ -77,13 +96,16 @@ pub fn starts(log: &[u8]) -> Vec<usize> {
     starts
 }
 
-/// One fault: mostly in the tag or the length of a record.
+/// One fault: mostly in the tag, the length or the number of a record.
 pub fn damage(random: &mut Random, log: &mut Vec<u8>) {
     let starts = starts(log);
     if starts.is_empty() || random.percent(20) {
         return codes::damage(random, log);
     }
     let at = random.pick(&starts);
+    if let (true, Some(number)) = (random.percent(25), log.get_mut(at + HEAD..at + HEAD + NUMBER)) {
+        return damage_number(random, number);
+    }
     match random.below(8) {
         0 => log[at] = random.pick(&[0, 1, 2, 3, 4, 255]),
         1 => log[at] ^= 1 << random.below(8),
@@ -96,23 +118,68 @@ pub fn damage(random: &mut Random, log: &mut Vec<u8>) {
     }
 }
 
-/// A log about some codes, of which the first are out: mostly changes that can be done. Some records are none, some logs are
-/// cut, some damaged.
-pub fn log(random: &mut Random, codes: &[Vec<u8>], used: usize) -> Vec<u8> {
-    let mut out: Vec<bool> = (0..codes.len()).map(|code| code < used).collect();
-    let mut log = Vec::new();
-    for _ in 0..random.below(7) {
-        let code = match random.percent(50) && used > 0 {
-            true => random.below(used),
+/// One more, one less, 0, low byte first, or one with another byte.
+fn damage_number(random: &mut Random, number: &mut [u8]) {
+    match random.below(6) {
+        0..=1 => number[3] = number[3].wrapping_add(1),
+        2 => number[3] = number[3].wrapping_sub(1),
+        3 => number.fill(0),
+        4 => number.reverse(),
+        _ => number[random.below(NUMBER)] = random.byte(),
+    }
+}
+
+/// The number of a log's first record: mostly the next one, or one that was applied already, as in a log that is replayed
+/// once more; some leave numbers out.
+pub fn first_number(random: &mut Random, last: u32) -> u32 {
+    let next = last.saturating_add(1);
+    match random.below(20) {
+        0..=10 => next,
+        11..=15 => last.saturating_sub(random.below(6) as u32).max(1),
+        16..=17 => 1,
+        18 => next.saturating_add(1),
+        _ => areas::last_number(random).max(1),
+    }
+}
+
+/// The number of a record that would have this one: another in a few.
+fn number_in_log(random: &mut Random, number: u32) -> u32 {
+    match random.below(40) {
+        0..=1 => number.saturating_add(1),
+        2 => number.saturating_sub(1),
+        3 => 0,
+        4 => 1,
+        5 => areas::last_number(random),
+        _ => number,
+    }
+}
+
+/// A log about the codes of a register: mostly changes that can be done. Some records are none, some logs are cut, some
+/// damaged, and the numbers of some are applied already or leave others out.
+pub fn log(random: &mut Random, filled: &Filled) -> Vec<u8> {
+    let Filled { area, codes, used } = filled;
+    let mut last = last_number(area).expect("a register");
+    let mut out: Vec<bool> = (0..codes.len()).map(|code| code < *used).collect();
+    let (mut log, mut number) = (Vec::new(), first_number(random, last));
+    for _ in 0..random.below(8) {
+        let own = number_in_log(random, number);
+        // Where the number decides, the change may be one that cannot be done: an issue above all where no place is free.
+        let is_next = own == last.saturating_add(1);
+        let wants_room = !is_next && *used == PLACES && random.percent(70);
+        let code = match random.percent(50) && *used > 0 && !wants_room {
+            true => random.below(*used),
             false => used + random.below(codes.len() - used),
         };
         if random.percent(10) {
-            log.extend(no_record(random, &[255, 256, 257, 1000, 65_535]));
+            log.extend(no_record(random, &[255, 256, 257, 1000, 65_535], own));
         } else {
-            let issues = out[code] != random.percent(90);
-            log.extend(Change::new(random, issues, &codes[code]).bytes());
-            out[code] = issues;
+            let issues = wants_room || out[code] != random.percent(if is_next { 90 } else { 50 });
+            log.extend(Change::new(random, issues, &codes[code]).bytes(own));
+            if own > last {
+                (out[code], last) = (issues, own);
+            }
         }
+        number = own.max(number).saturating_add(1);
     }
     if random.percent(30) {
         damage(random, &mut log);
@@ -133,7 +200,7 @@ pub fn append(random: &mut Random, call: Call) -> Request {
         }
         _ => cases::one_code(random),
     };
-    let need = HEAD + if call.lends() { 4 } else { 0 } + first.len();
+    let need = HEAD + NUMBER + if call.lends() { BORROWER } else { 0 } + first.len();
     let (any, far) = (random.below(300), random.pick(&[4000, 65_530, 65_536]));
     let before = random.pick(&[0, 0, 1, any, any, any, any, far]);
     let (less, more) = (random.below(need), random.below(300));
@@ -144,5 +211,6 @@ pub fn append(random: &mut Random, call: Call) -> Request {
         false => before,
     };
     let borrower = if call.lends() { areas::borrower(random) } else { 0 };
-    Request { first, second: random.bytes(length), borrower, position, ..Request::new(call) }
+    let record_number = if random.percent(8) { 0 } else { areas::last_number(random).max(1) };
+    Request { first, second: random.bytes(length), borrower, record_number, position, ..Request::new(call) }
 }

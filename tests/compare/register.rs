@@ -1,5 +1,5 @@
 //! Sequences of calls on one register, from the empty one on: after each the answer and the whole area are those of the
-//! reference, and the answer and the counts are those of a plain map.
+//! reference, and the answer and the counts are those of a plain map. In each fifth few record numbers are left.
 
 use crate::counts::{self, Outs};
 use crate::random::Random;
@@ -10,7 +10,7 @@ use harness::expected;
 use harness::library::{Case, Library};
 use harness::tally::Tally;
 use reference::doors::{self, LONGEST_CODE};
-use reference::refusal::{ALL_OUT, ALREADY_OUT, NOT_OUT};
+use reference::refusal::{ALL_OUT, ALREADY_OUT, NOT_OUT, NUMBERS_SPENT};
 use reference::register::{LENGTH, PLACES};
 use std::collections::HashMap;
 use std::ops::Range;
@@ -23,7 +23,8 @@ pub fn count(cases: usize, memcheck: bool) -> u64 {
 /// Numbers that a sequence has to bring out for a call; the others come out by calls on one random area.
 fn own_numbers(call: Call) -> &'static [u32] {
     match call {
-        Call::Issue => &[0, ALREADY_OUT, ALL_OUT],
+        Call::Issue => &[0, ALREADY_OUT, ALL_OUT, NUMBERS_SPENT],
+        Call::TakeBack => &[0, NOT_OUT, NUMBERS_SPENT],
         _ => &[0, NOT_OUT],
     }
 }
@@ -48,30 +49,37 @@ fn plan(random: &mut Random, number: u64) -> Plan {
     Plan { codes, calls }
 }
 
-/// The register as a plain map.
-type Map = HashMap<Vec<u8>, u32>;
-
-/// What the map answers to a call, and what it is then.
-fn by_map(map: &mut Map, request: &Request) -> Result<u32, u32> {
-    let code = doors::code(&request.first, LONGEST_CODE)?;
-    match request.call {
-        Call::Issue if map.contains_key(&code) => Err(ALREADY_OUT),
-        Call::Issue if map.len() == PLACES => Err(ALL_OUT),
-        Call::Issue => Ok(map.insert(code, request.borrower).unwrap_or(0)),
-        Call::TakeBack => map.remove(&code).map(|_| 0).ok_or(NOT_OUT),
-        _ => map.get(&code).copied().ok_or(NOT_OUT),
-    }
+/// The register as a plain map, and the last record number.
+struct Map {
+    codes: HashMap<Vec<u8>, u32>,
+    last: u32,
 }
 
-/// The two answers, as far as a map has one: the number, and the borrower of a question.
+/// What the map answers to a call, and what it is then: the borrower of a question, the number that another call takes.
+fn by_map(map: &mut Map, request: &Request) -> Result<u32, u32> {
+    let code = doors::code(&request.first, LONGEST_CODE)?;
+    let Map { codes, last } = map;
+    match request.call {
+        Call::Ask => return codes.get(&code).copied().ok_or(NOT_OUT),
+        _ if *last == u32::MAX => return Err(NUMBERS_SPENT),
+        Call::Issue if codes.contains_key(&code) => return Err(ALREADY_OUT),
+        Call::Issue if codes.len() == PLACES => return Err(ALL_OUT),
+        Call::Issue => drop(codes.insert(code, request.borrower)),
+        _ => drop(codes.remove(&code).ok_or(NOT_OUT)?),
+    }
+    *last += 1;
+    Ok(*last)
+}
+
+/// The two answers, as far as a map has one: the number, and the borrower of a question or the record number.
 fn agrees(map: Result<u32, u32>, due: &Response) -> bool {
-    let (number, borrower) = map.map_or_else(|number| (number, 0), |borrower| (0, borrower));
-    due.number == number && due.values[0] == u64::from(borrower)
+    let (number, value) = map.map_or_else(|number| (number, 0), |value| (0, value));
+    due.number == number && due.values[0] == u64::from(value)
 }
 
 /// What the question for the counts answers: the numbers of the map.
 fn counts_of(map: &Map) -> Response {
-    Response::told(0, counts::of_codes(map.keys().map(Vec::as_slice)).map(u64::from))
+    Response::told(0, counts::of_codes(map.codes.keys().map(Vec::as_slice)).map(u64::from))
 }
 
 /// What came out over some sequences: for each call, and of the counts.
@@ -85,7 +93,10 @@ struct Came {
 fn run(library: &mut Library, seed: u64, case: &Case, came: &mut Came) -> Result<(), String> {
     let mut random = Random::of_case(seed, u64::MAX - 2, case.number);
     let Plan { codes, calls } = plan(&mut random, case.number);
-    let (mut area, mut map) = (vec![0; LENGTH], Map::new());
+    let left = random.below(40) as u32;
+    let last = if case.number % 5 == 1 { u32::MAX - random.pick(&[0, 1, 5, left]) } else { 0 };
+    let (mut area, mut map) = (vec![0; LENGTH], Map { codes: HashMap::new(), last });
+    areas::put_last(&mut area, last);
     for (index, &call) in calls.iter().enumerate() {
         let any = random.below(codes.len());
         let first = match index < codes.len() && codes.len() > PLACES {

@@ -1,7 +1,7 @@
 //! How often each number was the right answer, each end of a replay, and each count of looks; how often wide composites came,
-//! and areas with each fault.
+//! record numbers that decide, and areas with each fault.
 
-use crate::{faults, wide};
+use crate::{faults, numbered, wide};
 use harness::call::{Call, Request, Response};
 use reference::refusal::NOT_OUT;
 
@@ -14,14 +14,18 @@ const MOST_LOOKS: usize = 9;
 /// From so many cases on, looks and faults have to come out: there are too many of them for fewer.
 const MANY: usize = 3000;
 
+/// Of so many cases one at least has each kind of record numbers.
+const OF_NUMBERED: usize = 1500;
+
 #[derive(Default)]
 pub struct Seen {
-    numbers: [usize; 25],
+    numbers: [usize; 27],
     ends: [usize; ENDS.len()],
     /// Of questions by their looks: those that find the code, and those that do not.
     found: [usize; MOST_LOOKS + 1],
     not_found: [usize; MOST_LOOKS + 1],
     wide: [usize; wide::KINDS.len()],
+    numbered: [usize; numbered::KINDS.len()],
     faults: Faults,
 }
 
@@ -48,6 +52,9 @@ impl Seen {
         for (count, found) in self.wide.iter_mut().zip(wide::found(request, due)) {
             *count += usize::from(found);
         }
+        for (count, found) in self.numbered.iter_mut().zip(numbered::found(request, due)) {
+            *count += usize::from(found);
+        }
         for (count, found) in self.faults.0.iter_mut().zip(faults::found(request, due)) {
             *count += usize::from(found);
         }
@@ -70,6 +77,12 @@ impl Seen {
         rare.chain(ends.map(|(end, _)| end.to_string())).chain(wide).collect()
     }
 
+    /// Those of the kinds of record numbers that the cases bring out too seldom.
+    pub fn few_numbered(&self, kinds: &[usize]) -> Vec<String> {
+        let few = kinds.iter().filter(|&&kind| self.numbered[kind] < (self.all() / OF_NUMBERED).max(1));
+        few.filter(|_| self.all() >= MANY).map(|&kind| numbered::KINDS[kind].to_string()).collect()
+    }
+
     /// The same of what a call can meet in any area.
     pub fn few_on_areas(&self, call: Call) -> Vec<String> {
         let few = self.on_areas(call).into_iter().filter(|&(_, count)| self.all() >= MANY && self.is_rare(count));
@@ -88,14 +101,16 @@ impl Seen {
         looks.filter(|_| call == Call::Ask).chain(faults.filter(|_| of_area)).collect()
     }
 
-    /// The count for each number that the call can answer, for a replay for each end, for each kind of wide composites that
-    /// the call can meet, and for the looks and faults that it met.
+    /// The count for each number that the call can answer, for a replay for each end, for each kind of wide composites and of
+    /// record numbers that the call can meet, and for the looks and faults that it met.
     pub fn shown(&self, call: Call) -> String {
         let numbers = call.numbers().iter().map(|&number| format!("{number}:{}", self.numbers[number as usize]));
         let ends = ENDS.iter().zip(self.ends).filter(|_| call == Call::Replay);
         let wide = wide::kinds(call).iter().map(|&kind| format!("{}:{}", wide::KINDS[kind], self.wide[kind]));
         let on_areas = self.on_areas(call).into_iter().filter(|&(_, count)| count > 0);
-        let named = ends.map(|(end, count)| format!("{end}:{count}")).chain(wide);
+        let numbered = numbered::kinds(call).iter();
+        let numbered = numbered.map(|&kind| format!("{}:{}", numbered::KINDS[kind], self.numbered[kind]));
+        let named = ends.map(|(end, count)| format!("{end}:{count}")).chain(wide).chain(numbered);
         let named = named.chain(on_areas.map(|(name, count)| format!("{name}:{count}")));
         numbers.chain(named).collect::<Vec<_>>().join(" ")
     }

@@ -3,8 +3,8 @@
 use crate::{areas, records};
 use harness::area::places;
 use harness::call::{Call, Request, Response};
-use reference::log::{End, HEAD, ISSUE};
-use reference::refusal::{ALL_OUT, ALREADY_OUT, NOT_OUT, NOT_RECORD, NOT_REGISTER};
+use reference::log::{End, BORROWER, HEAD, ISSUE, NUMBER};
+use reference::refusal::{ALL_OUT, ALREADY_OUT, NOT_OUT, NOT_RECORD, NOT_REGISTER, NUMBERS_SPENT, NUMBER_GAP};
 use reference::register::PLACE;
 use reference::{base32, header};
 
@@ -81,11 +81,7 @@ fn replayed<'a>(request: &'a Request, due: &Response) -> Vec<&'a [u8]> {
     let code_at = |start: usize| {
         let length = usize::from(u16::from_be_bytes([log[start + 1], log[start + 2]]));
         let body = log[start + HEAD..].get(..length)?;
-        if log[start] == ISSUE {
-            body.get(4..)
-        } else {
-            Some(body)
-        }
+        body.get(if log[start] == ISSUE { NUMBER + BORROWER } else { NUMBER }..)
     };
     records::starts(log).into_iter().filter(|&start| reached(start)).filter_map(code_at).collect()
 }
@@ -109,7 +105,8 @@ fn asked(request: &Request, due: &Response) -> Vec<Option<usize>> {
 
 /// What the places of a register hold, and of an area that is none, where the answer tells which it is.
 fn in_places(request: &Request, due: &Response) -> Vec<Option<usize>> {
-    let is_register = matches!(due.number, 0 | ALREADY_OUT | ALL_OUT | NOT_OUT | NOT_RECORD);
+    let told = [0, ALREADY_OUT, ALL_OUT, NOT_OUT, NOT_RECORD, NUMBER_GAP, NUMBERS_SPENT];
+    let is_register = told.contains(&due.number);
     let kind_in = |place: &[u8]| match kind_of(areas::code_in(place))? {
         ALONE if is_register => Some(IN_PLACE),
         FOLLOWED | CUT | OTHER_LENGTH if due.number == NOT_REGISTER => Some(SPOILT_IN_PLACE),

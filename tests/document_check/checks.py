@@ -140,11 +140,12 @@ def check_homes(document: Document, index: Index, tally: Tally) -> None:
 PROMISES = {
     "crates/iscc/specs/Demands.antt": (r"Demand[123]\.", 42),
     "crates/iscc/specs/WideComposites.antt": (r"\w+\.", 22),
-    "crates/loans/specs/Promises.antt": (r"\w+\.", 27),
+    "crates/loans/specs/Promises.antt": (r"\w+\.", 29),
     "crates/loans/specs/OrderPromises.antt": (r"\w+\.", 26),
     "crates/loans/specs/CountPromises.antt": (r"\w+\.", 9),
     "crates/loans/specs/Good.antt": (r"Sound\.", 4),
     "crates/loans/specs/LogPromises.antt": (r"\w+\.", 16),
+    "crates/loans/specs/NumberPromises.antt": (r"\w+\.", 5),
     "crates/loans/specs/Tears.antt": (r"(Tears|TornOff)\.", 6),
     "crates/loans/specs/LogOrder.antt": (r"StopTold\.", 5),
     "crates/loans/specs/Writer.antt": (r"Appended\.", 5),

@@ -2,7 +2,7 @@
 
 use crate::call::Values;
 use crate::hex;
-use reference::register::{COUNTS, PLACE};
+use reference::register::{COUNTS, LAST, LENGTH, PLACE};
 
 /// So many parts are shown.
 const MOST_SHOWN: usize = 32;
@@ -19,17 +19,26 @@ pub fn numbers(area: &[u8]) -> Values {
     std::array::from_fn(|at| u64::from(area[2 * at]) << 8 | u64::from(area[2 * at + 1]))
 }
 
-/// The places of a register, without the counts.
+/// The places of a register, without the counts and the last number.
 pub fn places(area: &[u8]) -> &[u8] {
-    area.get(COUNTS..).unwrap_or_default()
+    area.get(COUNTS..LAST.min(area.len())).unwrap_or_default()
 }
 
-/// The parts of a register, each with its offset and its name: the counts, then the places.
+/// The last record number that stands in a register; none in an area of another length.
+pub fn last_number(area: &[u8]) -> Option<u32> {
+    let bytes = area.get(LAST..).filter(|_| area.len() == LENGTH)?;
+    Some(u32::from_be_bytes(bytes.try_into().ok()?))
+}
+
+/// The parts of a register, each with its offset and its name: the counts, then the places, then the last number and whatever
+/// stands behind it.
 fn parts(area: &[u8]) -> impl Iterator<Item = (usize, String, &[u8])> {
-    let (counts, places) = area.split_at(COUNTS.min(area.len()));
+    let (before, last) = area.split_at(LAST.min(area.len()));
+    let (counts, places) = before.split_at(COUNTS.min(before.len()));
     let places = places.chunks(PLACE).enumerate();
     let places = places.map(|(place, bytes)| (COUNTS + place * PLACE, format!("place {place}"), bytes));
-    std::iter::once((0, "the counts".to_string(), counts)).chain(places)
+    let last = std::iter::once((LAST, "the last number".to_string(), last));
+    std::iter::once((0, "the counts".to_string(), counts)).chain(places).chain(last)
 }
 
 /// A register's length, and each part that is not all zeros by its offset, without the zeros at its end.

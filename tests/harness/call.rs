@@ -141,10 +141,11 @@ impl Call {
             Call::UnitWrite => &[0, 8, 9, 15],
             Call::Join => &[0, 7, 8, 9, 10, 11, 12, 13, 14, 15],
             Call::Split => &[0, 7, 8, 9, 15, 19],
-            Call::Issue => &[0, 1, 2, 3, 4, 5, 6, 7, 8, 9, 10, 11, 12, 13, 14, 20, 21, 23],
-            Call::TakeBack | Call::Ask => &[0, 1, 2, 3, 4, 5, 6, 7, 8, 9, 10, 11, 12, 13, 14, 22, 23],
+            Call::Issue => &[0, 1, 2, 3, 4, 5, 6, 7, 8, 9, 10, 11, 12, 13, 14, 20, 21, 23, 26],
+            Call::TakeBack => &[0, 1, 2, 3, 4, 5, 6, 7, 8, 9, 10, 11, 12, 13, 14, 22, 23, 26],
+            Call::Ask => &[0, 1, 2, 3, 4, 5, 6, 7, 8, 9, 10, 11, 12, 13, 14, 22, 23],
             Call::LogIssue | Call::LogReturn => &[0, 15, 24],
-            Call::Replay => &[0, 20, 21, 22, 23, 24],
+            Call::Replay => &[0, 20, 21, 22, 23, 24, 25],
             Call::Counts => &[0, 23],
         }
     }
@@ -162,6 +163,8 @@ pub struct Request {
     pub header: [u32; 4],
     /// To whom a code is issued.
     pub borrower: u32,
+    /// The number that a record gets.
+    pub record_number: u32,
     /// Where in the log a record is to be written.
     pub position: usize,
     /// The length of the output area.
@@ -170,7 +173,8 @@ pub struct Request {
 
 impl Request {
     pub fn new(call: Call) -> Request {
-        Request { call, first: Vec::new(), second: Vec::new(), header: [0; 4], borrower: 0, position: 0, area: 0 }
+        let (first, second) = (Vec::new(), Vec::new());
+        Request { call, first, second, header: [0; 4], borrower: 0, record_number: 0, position: 0, area: 0 }
     }
 
     /// The second area where the call only reads it.
@@ -195,7 +199,7 @@ impl fmt::Display for Request {
             write!(f, " main_type={main_type} subtype={subtype} version={version} length={length}")?;
         }
         if self.call.appends() {
-            write!(f, " position={}", self.position)?;
+            write!(f, " position={} record_number={}", self.position, self.record_number)?;
         }
         if self.call.lends() {
             write!(f, " borrower={}", self.borrower)?;
@@ -254,7 +258,8 @@ impl Response {
     /// The call's answer by name, as the vectors have it; the number comes first.
     pub fn fields(&self, call: Call) -> Fields {
         let names: &[&str] = match call {
-            Call::Strict | Call::Issue | Call::TakeBack => &[],
+            Call::Strict => &[],
+            Call::Issue | Call::TakeBack => &["record_number"],
             Call::Ask => &["borrower", "looks"],
             Call::Replay => &["end", "offset"],
             Call::Counts => &COUNTED,

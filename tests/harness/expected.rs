@@ -3,7 +3,7 @@
 use crate::call::{values, Call, Request, Response};
 use reference::header::Header;
 use reference::log::Replayed;
-use reference::register::{Counts, Held};
+use reference::register::{Changed, Counts, Held};
 use reference::{base32, composite, distance, doors, header, log, register, unit, Answer};
 
 fn written(answer: Answer<Vec<u8>>) -> Response {
@@ -27,11 +27,13 @@ fn measured(answer: Answer<distance::Distance>) -> Response {
     }
 }
 
-/// The register as the call leaves it: on a refusal as it was.
-fn changed(answer: Answer<Vec<u8>>, before: &[u8]) -> Response {
+/// The register as the call leaves it and the record number that it took: on a refusal as it was, and 0.
+fn changed(answer: Answer<Changed>, before: &[u8]) -> Response {
     match answer {
         Err(number) => Response { number, written: before.to_vec(), ..Response::default() },
-        Ok(area) => Response { written: area, ..Response::default() },
+        Ok(Changed { record_number, area }) => {
+            Response { number: 0, values: values([u64::from(record_number)]), written: area }
+        }
     }
 }
 
@@ -60,7 +62,7 @@ fn counted(answer: Answer<Counts>) -> Response {
 }
 
 pub fn answer(request: &Request) -> Response {
-    let Request { call, first, second, header, borrower, position, area } = request;
+    let Request { call, first, second, header, borrower, record_number, position, area } = request;
     match call {
         Call::Intake => written(doors::intake(first, *area)),
         Call::Strict => written(doors::strict(first).map(|()| Vec::new())),
@@ -78,8 +80,8 @@ pub fn answer(request: &Request) -> Response {
         Call::Issue => changed(register::issue(first, *borrower, second), second),
         Call::TakeBack => changed(register::take_back(first, second), second),
         Call::Ask => held(register::ask(first, second)),
-        Call::LogIssue => appended(log::issue(first, *borrower, second.len(), *position), second, *position),
-        Call::LogReturn => appended(log::take_back(first, second.len(), *position), second, *position),
+        Call::LogIssue => appended(log::issue(*record_number, first, *borrower, second.len(), *position), second, *position),
+        Call::LogReturn => appended(log::take_back(*record_number, first, second.len(), *position), second, *position),
         Call::Replay => replayed(log::replay(first, second)),
         Call::Counts => counted(register::counts(second)),
     }

@@ -35,6 +35,12 @@ struct HeaderAnswer {
 }
 
 #[repr(C)]
+struct Changed {
+    number: u32,
+    record_number: u32,
+}
+
+#[repr(C)]
 struct Holder {
     number: u32,
     borrower: u32,
@@ -72,19 +78,27 @@ extern "C" {
     fn iscc_join(units: *const u8, units_len: usize, out: *mut u8, out_len: usize) -> Written;
     fn iscc_split(code: *const u8, code_len: usize, out: *mut u8, out_len: usize) -> Written;
     fn iscc_distance(a: *const u8, a_len: usize, b: *const u8, b_len: usize) -> DistanceAnswer;
-    fn loans_issue(text: *const u8, text_len: usize, borrower: u32, area: *mut u8, area_len: usize) -> u32;
-    fn loans_return(text: *const u8, text_len: usize, area: *mut u8, area_len: usize) -> u32;
+    fn loans_issue(text: *const u8, text_len: usize, borrower: u32, area: *mut u8, area_len: usize) -> Changed;
+    fn loans_return(text: *const u8, text_len: usize, area: *mut u8, area_len: usize) -> Changed;
     fn loans_ask(text: *const u8, text_len: usize, area: *const u8, area_len: usize) -> Holder;
     fn loans_counts(area: *const u8, area_len: usize) -> Counted;
     fn loans_log_issue(
         log: *mut u8,
         log_len: usize,
         position: usize,
+        record_number: u32,
         code: *const u8,
         code_len: usize,
         borrower: u32,
     ) -> Written;
-    fn loans_log_return(log: *mut u8, log_len: usize, position: usize, code: *const u8, code_len: usize) -> Written;
+    fn loans_log_return(
+        log: *mut u8,
+        log_len: usize,
+        position: usize,
+        record_number: u32,
+        code: *const u8,
+        code_len: usize,
+    ) -> Written;
     fn loans_replay(log: *const u8, log_len: usize, area: *mut u8, area_len: usize) -> ReplayAnswer;
     fn probe_base32_read(text: *const u8, text_len: usize, out: *mut u8, out_len: usize) -> Written;
     fn probe_base32_write(bytes: *const u8, bytes_len: usize, out: *mut u8, out_len: usize) -> Written;
@@ -292,7 +306,7 @@ impl Library {
 
 /// One call on areas that stand at the pointers.
 unsafe fn enter(request: &Request, first: *const u8, second: *const u8, out: *mut u8) -> Response {
-    let Request { call, header: [main_type, subtype, version, length], area, .. } = *request;
+    let Request { call, header: [main_type, subtype, version, length], record_number, position, area, .. } = *request;
     let (first_len, second_len) = (request.first.len(), request.second.len());
     let write = |writer: Writer| written(writer(first, first_len, out, area));
     let read = |reader: Reader| header(reader(first, first_len));
@@ -310,11 +324,13 @@ unsafe fn enter(request: &Request, first: *const u8, second: *const u8, out: *mu
         Call::UnitWrite => written(probe_unit_write(main_type, subtype, version, length, second, second_len, out, area)),
         Call::Join => write(iscc_join),
         Call::Split => write(iscc_split),
-        Call::Issue => Response::refused(loans_issue(first, first_len, request.borrower, out, second_len)),
-        Call::TakeBack => Response::refused(loans_return(first, first_len, out, second_len)),
+        Call::Issue => changed(loans_issue(first, first_len, request.borrower, out, second_len)),
+        Call::TakeBack => changed(loans_return(first, first_len, out, second_len)),
         Call::Ask => held(loans_ask(first, first_len, second, second_len)),
-        Call::LogIssue => written(loans_log_issue(out, second_len, request.position, first, first_len, request.borrower)),
-        Call::LogReturn => written(loans_log_return(out, second_len, request.position, first, first_len)),
+        Call::LogIssue => {
+            written(loans_log_issue(out, second_len, position, record_number, first, first_len, request.borrower))
+        }
+        Call::LogReturn => written(loans_log_return(out, second_len, position, record_number, first, first_len)),
         Call::Replay => replayed(loans_replay(first, first_len, out, second_len)),
         Call::Counts => counted(loans_counts(second, second_len)),
     }
@@ -328,6 +344,10 @@ fn header(answer: HeaderAnswer) -> Response {
     let [main_type, subtype, version, length] =
         [answer.main_type, answer.subtype, answer.version, answer.length].map(u64::from);
     Response::told(answer.number, [main_type, subtype, version, length, answer.used as u64])
+}
+
+fn changed(answer: Changed) -> Response {
+    Response::told(answer.number, [u64::from(answer.record_number)])
 }
 
 fn held(answer: Holder) -> Response {

@@ -71,12 +71,6 @@ impl Asked {
         looks.1.parse().ok()
     }
 
-    /// Whether the answer is older than wide composites: 24 for the record of one.
-    pub fn is_overtaken(&self) -> bool {
-        let is_wide = self.request.first.len() == 34 && self.request.first.starts_with(&[0x57, 0x00]);
-        is_wide && self.kind() == "append 24"
-    }
-
     /// The same columns of a response. The C interface has no value for `told`, which is 0 throughout.
     pub fn fields_of(&self, response: &Response) -> Fields {
         let mut fields = response.fields(self.call());
@@ -84,7 +78,6 @@ impl Asked {
             fields.extend([("outcome", outcome(response)), ("place", response.values[1].to_string())]);
         }
         fields.push(("told", "0".to_string()));
-        fields.push(("places", area::hash(area::places(&response.written))));
         let value = |name| fields.iter().find(|field| field.0 == name).expect("a column of the answer").1.clone();
         self.due.iter().map(|&(name, _)| (name, value(name))).collect()
     }
@@ -95,9 +88,25 @@ impl Asked {
         match self.due[0].1.as_str() {
             _ if self.call().reads().1 != Some("area") => None,
             "23" => Some(Response::refused(23)),
-            "0" | "20" | "21" | "22" | "24" => Some(Response::told(0, area::numbers(area))),
+            "0" | "20" | "21" | "22" | "24" | "25" | "26" => Some(Response::told(0, area::numbers(area))),
             _ => None,
         }
+    }
+
+    /// What is wrong with the record number of a live issue or return, which the vectors do not tell: an accepted one takes the
+    /// number behind the last one and keeps it in the area, a refused one tells 0 and changes no byte.
+    pub fn number_fault(&self, before: &[u8], response: &Response) -> Option<String> {
+        if !matches!(self.call(), Call::Issue | Call::TakeBack) {
+            return None;
+        }
+        let told = response.values[0];
+        if response.number != 0 {
+            let kept = told == 0 && response.written == before;
+            return (!kept).then(|| format!("a refusal tells record number {told}, or changes the area"));
+        }
+        let numbers = [before, &response.written].map(|area| area::last_number(area).map(u64::from));
+        let taken = numbers == [told.checked_sub(1), Some(told)];
+        (!taken).then(|| format!("record number {told}, but last numbers {numbers:?} before and after"))
     }
 
     /// Takes over the register or the log as the call has to leave it.
@@ -124,7 +133,7 @@ fn outcome(response: &Response) -> String {
         23 if is(End::NotBegun) => TO_THE_END.to_string(),
         0 if is(End::Ran) => TO_THE_END.to_string(),
         0 if is(End::Torn) => TORN.to_string(),
-        20..=22 | 24 if is(End::Stopped) => STOPPED.to_string(),
+        20..=22 | 24..=25 if is(End::Stopped) => STOPPED.to_string(),
         _ => format!("(end {end} with number {number})"),
     }
 }
@@ -146,7 +155,7 @@ pub fn prepared(step: &Step, held: &mut Held) -> Result<(), String> {
 }
 
 /// A line of a file; an error tells what cannot be read.
-pub fn parse(file: &str, line: &str) -> Result<Step, String> {
+pub fn parse(line: &str) -> Result<Step, String> {
     let mut columns = Columns::of(line);
     let step = match columns.as_it_stands("step")?.as_str() {
         "session" => columns.as_it_stands("name").map(|_| Step::Start),
@@ -158,9 +167,7 @@ pub fn parse(file: &str, line: &str) -> Result<Step, String> {
         "return" => on_register(Call::TakeBack, &mut columns),
         "ask" => on_register(Call::Ask, &mut columns),
         "append" => append(&mut columns),
-        // This file is older than the counts: its hashes are those of the places alone.
-        "replay" if file == LOG => replay(&mut columns, "places"),
-        "replay" => replay(&mut columns, "area"),
+        "replay" => replay(&mut columns),
         word => Err(format!("no step is called '{word}'")),
     }?;
     columns.end()?;
@@ -175,25 +182,25 @@ fn on_register(call: Call, columns: &mut Columns) -> Result<Step, String> {
     asked(request, columns, if call.changes() { &["told", "area"] } else { &["borrower", "looks", "told"] })
 }
 
-/// Records have no number of their own, and a return has no borrower: these columns are for others.
+/// A return has no borrower: this column is for the others.
 fn append(columns: &mut Columns) -> Result<Step, String> {
     let call = match columns.as_it_stands("kind")?.as_str() {
         "issue" => Call::LogIssue,
         "return" => Call::LogReturn,
         word => return Err(format!("no record is called '{word}'")),
     };
-    columns.number::<u32>("of the record")?;
+    let record_number = columns.number("record number")?;
     let borrower: u32 = columns.number("borrower")?;
-    let mut request = Request { first: columns.bytes("code")?, ..Request::new(call) };
+    let mut request = Request { first: columns.bytes("code")?, record_number, ..Request::new(call) };
     if call.lends() {
         request.borrower = borrower;
     }
     asked(request, columns, &["length", "log"])
 }
 
-fn replay(columns: &mut Columns, hashed: &'static str) -> Result<Step, String> {
+fn replay(columns: &mut Columns) -> Result<Step, String> {
     let request = Request { first: columns.bytes("log")?, ..Request::new(Call::Replay) };
-    asked(request, columns, &["outcome", "place", hashed])
+    asked(request, columns, &["outcome", "place", "area"])
 }
 
 /// A call with the number and the other columns that are due.

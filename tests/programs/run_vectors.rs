@@ -96,7 +96,7 @@ fn only_one(words: &mut Words) -> Only {
 fn fault(options: &Options) -> Option<String> {
     match &options.only {
         Some(Only::Line(name, line)) if sequence::FILES.contains(&name.as_str()) => {
-            let has_call = read(options, name).is_ok_and(|text| sequences::has_call(name, &text, *line));
+            let has_call = read(options, name).is_ok_and(|text| sequences::has_call(&text, *line));
             (!has_call).then(|| format!("'{name}' is missing, or its line {line} is, or is no call"))
         }
         Some(Only::Line(name, _)) if !table::names().contains(name) => {

@@ -1,16 +1,18 @@
-//! The pending issues log: records of issues and returns, their writer, and their replay onto a register.
+//! The pending issues log: numbered records of issues and returns, their writer, and their replay onto a register.
 
-use crate::refusal::{AREA_TOO_SHORT, NOT_RECORD};
+use crate::refusal::{AREA_TOO_SHORT, NOT_RECORD, NUMBER_GAP};
 use crate::{demand, register, Answer};
 
-/// The tags of the two records.
-pub const ISSUE: u8 = 1;
-pub const RETURN: u8 = 2;
+/// The tags of the two records. Records of the first form, without a number, had 1 and 2.
+pub const ISSUE: u8 = 3;
+pub const RETURN: u8 = 4;
 
 /// The bytes before a body: its tag, and its length in two bytes.
 pub const HEAD: usize = 3;
+/// The bytes of a record's number, which stands at the head of the body.
+pub const NUMBER: usize = 4;
 /// The bytes of a borrower.
-const BORROWER: usize = 4;
+pub const BORROWER: usize = 4;
 
 /// How a replay ended, by its number.
 #[derive(Clone, Copy, Debug, PartialEq, Eq)]
@@ -39,12 +41,18 @@ pub fn record(tag: u8, body: &[u8]) -> Vec<u8> {
     [&[tag], &length.to_be_bytes()[..], body].concat()
 }
 
-pub fn issue_record(code: &[u8], borrower: u32) -> Vec<u8> {
-    record(ISSUE, &[&borrower.to_be_bytes(), code].concat())
+pub fn issue_record(number: u32, code: &[u8], borrower: u32) -> Vec<u8> {
+    record(ISSUE, &[&number.to_be_bytes(), &borrower.to_be_bytes(), code].concat())
 }
 
-pub fn return_record(code: &[u8]) -> Vec<u8> {
-    record(RETURN, code)
+pub fn return_record(number: u32, code: &[u8]) -> Vec<u8> {
+    record(RETURN, &[&number.to_be_bytes(), code].concat())
+}
+
+/// 24 unless a record can be made: records are numbered from 1 up, and each has exactly one permitted unit or composite.
+fn demand_record(number: u32, code: &[u8]) -> Answer<()> {
+    demand(number != 0, NOT_RECORD)?;
+    demand(register::is_one_code(code), NOT_RECORD)
 }
 
 /// 15 unless the record has room behind the position in a log's area of so many bytes.
@@ -55,15 +63,15 @@ fn appended(record: Vec<u8>, area: usize, position: usize) -> Answer<Vec<u8>> {
 }
 
 /// What the writer puts at the position for an issue: 24, then 15.
-pub fn issue(code: &[u8], borrower: u32, area: usize, position: usize) -> Answer<Vec<u8>> {
-    demand(register::is_one_code(code), NOT_RECORD)?;
-    appended(issue_record(code, borrower), area, position)
+pub fn issue(number: u32, code: &[u8], borrower: u32, area: usize, position: usize) -> Answer<Vec<u8>> {
+    demand_record(number, code)?;
+    appended(issue_record(number, code, borrower), area, position)
 }
 
 /// What the writer puts at the position for a return: 24, then 15.
-pub fn take_back(code: &[u8], area: usize, position: usize) -> Answer<Vec<u8>> {
-    demand(register::is_one_code(code), NOT_RECORD)?;
-    appended(return_record(code), area, position)
+pub fn take_back(number: u32, code: &[u8], area: usize, position: usize) -> Answer<Vec<u8>> {
+    demand_record(number, code)?;
+    appended(return_record(number, code), area, position)
 }
 
 /// The tag and the body of the record at the head of some bytes; nothing where it is not whole.
@@ -73,26 +81,48 @@ fn whole(bytes: &[u8]) -> Option<(u8, &[u8])> {
     Some((tag, bytes[HEAD..].get(..length)?))
 }
 
-/// The register after a whole record: 24, then 20 and 21, or 22.
-fn applied(tag: u8, body: &[u8], area: &[u8]) -> Answer<Vec<u8>> {
+/// What a record asks for.
+enum Change<'a> {
+    Issue(&'a [u8], u32),
+    Return(&'a [u8]),
+}
+
+/// The number of a whole record and what it asks for: 24.
+fn read(tag: u8, body: &[u8]) -> Answer<(u32, Change<'_>)> {
+    let (number, rest) = body.split_first_chunk::<NUMBER>().ok_or(NOT_RECORD)?;
+    let number = u32::from_be_bytes(*number);
     match tag {
         ISSUE => {
-            let (borrower, code) = body.split_first_chunk::<BORROWER>().ok_or(NOT_RECORD)?;
-            demand(register::is_one_code(code), NOT_RECORD)?;
-            register::issue_code(code, u32::from_be_bytes(*borrower), area)
+            let (borrower, code) = rest.split_first_chunk::<BORROWER>().ok_or(NOT_RECORD)?;
+            demand_record(number, code)?;
+            Ok((number, Change::Issue(code, u32::from_be_bytes(*borrower))))
         }
         RETURN => {
-            demand(register::is_one_code(body), NOT_RECORD)?;
-            register::take_code_back(body, area)
+            demand_record(number, rest)?;
+            Ok((number, Change::Return(rest)))
         }
         _ => Err(NOT_RECORD),
+    }
+}
+
+/// The register after a whole record: 24; as it was where the number was applied already; 25; then 20 and 21, or 22.
+fn applied(tag: u8, body: &[u8], area: &[u8]) -> Answer<Vec<u8>> {
+    let (number, change) = read(tag, body)?;
+    let last = register::last_number(area)?;
+    if number <= last {
+        return Ok(area.to_vec());
+    }
+    demand(number - last == 1, NUMBER_GAP)?;
+    match change {
+        Change::Issue(code, borrower) => register::issue_code(code, borrower, number, area),
+        Change::Return(code) => register::take_code_back(code, number, area),
     }
 }
 
 /// Replay: 23 before all else, then each record from the left.
 pub fn replay(log: &[u8], area: &[u8]) -> Replayed {
     let (mut area, mut offset) = (area.to_vec(), 0);
-    if let Err(number) = register::test(&area) {
+    if let Err(number) = register::last_number(&area) {
         return Replayed { number, end: End::NotBegun, offset: 0, area };
     }
     while offset < log.len() {

@@ -24,3 +24,5 @@ pub const ALL_OUT: u32 = 21;
 pub const NOT_OUT: u32 = 22;
 pub const NOT_REGISTER: u32 = 23;
 pub const NOT_RECORD: u32 = 24;
+pub const NUMBER_GAP: u32 = 25;
+pub const NUMBERS_SPENT: u32 = 26;

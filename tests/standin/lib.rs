@@ -4,7 +4,7 @@
 use reference::distance::Distance;
 use reference::header::Header;
 use reference::log::Replayed;
-use reference::register::Held;
+use reference::register::{Changed, Held};
 use reference::{base32, composite, distance, doors, header, log, register, unit, Answer};
 
 #[repr(C)]
@@ -30,6 +30,12 @@ pub struct HeaderAnswer {
     version: u32,
     length: u32,
     used: usize,
+}
+
+#[repr(C)]
+pub struct ChangedAnswer {
+    number: u32,
+    record_number: u32,
 }
 
 #[repr(C)]
@@ -94,12 +100,12 @@ fn appended(answer: Answer<Vec<u8>>, log: &mut [u8], position: usize) -> Written
 }
 
 /// Copies the register as the call leaves it, and on a refusal nothing.
-fn changed(answer: Answer<Vec<u8>>, area: &mut [u8]) -> u32 {
+fn changed(answer: Answer<Changed>, area: &mut [u8]) -> ChangedAnswer {
     match answer {
-        Err(number) => number,
-        Ok(bytes) => {
-            area.copy_from_slice(&bytes);
-            0
+        Err(number) => ChangedAnswer { number, record_number: 0 },
+        Ok(Changed { record_number, area: left }) => {
+            area.copy_from_slice(&left);
+            ChangedAnswer { number: 0, record_number }
         }
     }
 }
@@ -188,13 +194,13 @@ pub unsafe extern "C" fn loans_issue(
     borrower: u32,
     area: *mut u8,
     area_len: usize,
-) -> u32 {
+) -> ChangedAnswer {
     let area = lent_out(area, area_len);
     changed(register::issue(lent(text, text_len), borrower, area), area)
 }
 
 #[no_mangle]
-pub unsafe extern "C" fn loans_return(text: *const u8, text_len: usize, area: *mut u8, area_len: usize) -> u32 {
+pub unsafe extern "C" fn loans_return(text: *const u8, text_len: usize, area: *mut u8, area_len: usize) -> ChangedAnswer {
     let area = lent_out(area, area_len);
     changed(register::take_back(lent(text, text_len), area), area)
 }
@@ -220,11 +226,13 @@ pub unsafe extern "C" fn loans_log_issue(
     log: *mut u8,
     log_len: usize,
     position: usize,
+    record_number: u32,
     code: *const u8,
     code_len: usize,
     borrower: u32,
 ) -> Written {
-    appended(log::issue(lent(code, code_len), borrower, log_len, position), lent_out(log, log_len), position)
+    let record = log::issue(record_number, lent(code, code_len), borrower, log_len, position);
+    appended(record, lent_out(log, log_len), position)
 }
 
 #[no_mangle]
@@ -232,10 +240,12 @@ pub unsafe extern "C" fn loans_log_return(
     log: *mut u8,
     log_len: usize,
     position: usize,
+    record_number: u32,
     code: *const u8,
     code_len: usize,
 ) -> Written {
-    appended(log::take_back(lent(code, code_len), log_len, position), lent_out(log, log_len), position)
+    let record = log::take_back(record_number, lent(code, code_len), log_len, position);
+    appended(record, lent_out(log, log_len), position)
 }
 
 /// The register stays as the replay leaves it, on a refusal too.

@@ -1,4 +1,4 @@
--- The answers of the strict door, of a question and of the log as C has them, by each case.
+-- The answers of the strict door, of a change, of a question and of the log as C has them, by each case.
 use Prim.Native.Nat.{ℕ, _-_, _≤_}
 use mathlib.Core.Path.{_≡_, refl, sym, _∙_, ap}
 use mathlib.Core.List.{List}
@@ -7,10 +7,9 @@ use Rattle.iscc.specs.Answer.{Answer, accept, refuse, numberOf}
 use Rattle.iscc.specs.Refusals.{Refusal}
 use Rattle.iscc.specs.Meaning.{Meaning}
 use Rattle.iscc.specs.declared.written.Outcome.{Outcome}
-use Rattle.loans.specs.Map.{Change}
 use Rattle.loans.specs.Writer.{Written}
 use Rattle.loans.specs.Replay as loans
-use Rattle.loans.specs.PendingLog.{writeRecord}
+use Rattle.loans.specs.PendingLog.{NumberedChange, writeRecord}
 use Rattle.loans.proofs.LogPromises.{pending-log}
 use Rattle.log.specs.declared.append.Appended.{Appended}
 use Rattle.log.specs.declared.replay.Replayed.{Replayed}
@@ -19,19 +18,36 @@ use Rattle.log.specs.Representation.{appendedAs, endAs, replayedAs}
 use Rattle.door.specs.Representation.{checkedNumber}
 use Rattle.door.specs.declared.strict.Checked.{Checked}
 use Rattle.door.specs.declared.strict.Checked.the-variants.{Accepted, Refused}
-use Rattle.register.specs.Representation.{askedAs, holderNumber, holderBorrower}
+use Rattle.loans.specs.Contents.{numberTaken}
+use Rattle.register.specs.Representation.{changedNumber, changedRecord, askedAs, holderNumber, holderBorrower}
+use Rattle.register.specs.declared.answer.Changed.{Changed}
+use Rattle.register.specs.declared.answer.Changed.the-variants as changes
 use Rattle.register.specs.declared.answer.Asked.{Asked}
 use Rattle.register.specs.declared.answer.Holder.{Holder}
 use Rattle.register.specs.declared.answer.Holder.the-variants as holders
+use Rattle.console.specs.declared.lending.ChangeAnswer.{ChangeAnswer}
 use Rattle.console.specs.declared.lending.HolderAnswer.{HolderAnswer}
 use Rattle.console.specs.declared.logging.ReplayAnswer.{ReplayAnswer}
-use Rattle.console.specs.Representation.{holderAnswerAs, movedOn, recordOutcome, endAnswer, replayAnswerAs}
+use Rattle.console.specs.Representation.{changeAnswerFor, changeAnswerAs, holderAnswerAs, movedOn, recordOutcome, endAnswer, replayAnswerAs}
 
 pub taken : (r : Checked) (x : Answer Meaning) → checkedNumber r ≡ numberOf x → r ≡ Accepted → 0 ≡ numberOf x
 taken r x e f = ap checkedNumber (sym f) ∙ e
 
 pub not-taken : (r : Checked) (x : Answer Meaning) (q : Refusal) → checkedNumber r ≡ numberOf x → r ≡ Refused q → q .number ≡ numberOf x
 not-taken r x q e f = ap checkedNumber (sym f) ∙ e
+
+-- ---- a change
+
+pub is-done : (r : Changed) (n : ℕ) → r ≡ changes.Done n → record { number = 0; «record_number» = n } ≡ changeAnswerFor r
+is-done r n e = sym (ap changeAnswerFor e)
+
+pub not-done : (r : Changed) (q : Refusal) → r ≡ changes.Refused q → record { number = q .number; «record_number» = 0 } ≡ changeAnswerFor r
+not-done r q e = sym (ap changeAnswerFor e)
+
+-- by a text
+pub change-told : (r : Changed) (x : Answer (List ℕ)) (a : ChangeAnswer) → changedNumber r ≡ numberOf x → changedRecord r ≡ numberTaken x → a ≡ changeAnswerFor r
+    → a ≡ changeAnswerAs x
+change-told r x a n t e = e ∙ rw (n, t)
 
 -- ---- a question
 
@@ -52,11 +68,11 @@ module _ (a : Asked) (x : Answer ℕ) (looks : ℕ) (e : a ≡ askedAs x looks) 
 -- ---- a record
 
 -- the position never goes back
-pub moved-on : (ch : Change) (log : List ℕ) (position : ℕ) (r : Appended) → r ≡ appendedAs position (writeRecord ch log position) → position ≤ r .position
-moved-on ch log position r e = rw e (go (writeRecord ch log position) refl)
+pub moved-on : (n : NumberedChange) (log : List ℕ) (position : ℕ) (r : Appended) → r ≡ appendedAs position (writeRecord n log position) → position ≤ r .position
+moved-on n log position r e = rw e (go (writeRecord n log position) refl)
   where
-    go : (x : Answer Written) → writeRecord ch log position ≡ x → position ≤ appendedAs position x .position
-    go (accept w) f = omega (arith, pending-log .appends ch log position w f .moved)
+    go : (x : Answer Written) → writeRecord n log position ≡ x → position ≤ appendedAs position x .position
+    go (accept w) f = omega (arith, pending-log .appends n log position w f .moved)
     go (refuse q) f = omega arith
 
 pub record-told : (position : ℕ) (x : Answer Written) (r : Appended) (o : Outcome) → r ≡ appendedAs position x → o ≡ movedOn position r → o ≡ recordOutcome position x

@@ -13,13 +13,12 @@ use Rattle.iscc.specs.Representation.{writtenAs, outcomeAs}
 use Rattle.iscc.proofs.Numbers.{Numbered, number-table, number-0, outcome-number, outcome-length, intake-numbered, strict-numbered, distance-numbered, code-numbered, text-numbered, join-numbered, split-numbered}
 use Rattle.distance.specs.Representation.{measuredAs}
 use Rattle.iscc.proofs.Answer.{never, refuse-inj, value-of}
-use Rattle.loans.specs.Map.{Change}
 use Rattle.loans.specs.Contents.{isRegister, register, askText, looksText, countsAsked}
 use Rattle.loans.specs.Fields.{fieldBytes}
 use Rattle.loans.specs.Writer.{Written}
 use Rattle.loans.specs.Replay.{End, ended, torn, stopped, Replayed, replayFrom, inBytes, replayed}
 use Rattle.loans.specs.LogOrder.{stopOf}
-use Rattle.loans.specs.PendingLog.{recordOf, writeRecord, applyRecord, replayLog}
+use Rattle.loans.specs.PendingLog.{NumberedChange, recordOf, writeRecord, applyRecord, replayLog}
 use Rattle.loans.proofs.Promises.{loans-register}
 use Rattle.loans.proofs.LogPromises.{pending-log}
 use Rattle.loans.proofs.CountPromises.{not-told}
@@ -62,11 +61,11 @@ record-number : (position : ℕ) (x : Answer Written) → recordOutcome position
 record-number position (accept w) = refl
 record-number position (refuse q) = refl
 
-record-length : (ch : Change) (log : List ℕ) (position : ℕ) → Accepted (writeRecord ch log position)
-    → recordOutcome position (writeRecord ch log position) .length ≡ length (fieldBytes (recordOf ch))
-record-length ch log position a =
-    let w = value-of (writeRecord ch log position) a in
-    let m : w .0 .position ≡ position + length (fieldBytes (recordOf ch)) = pending-log .appends ch log position (w .0) (w .1) .moved in
+record-length : (n : NumberedChange) (log : List ℕ) (position : ℕ) → Accepted (writeRecord n log position)
+    → recordOutcome position (writeRecord n log position) .length ≡ length (fieldBytes (recordOf n))
+record-length n log position a =
+    let w = value-of (writeRecord n log position) a in
+    let m : w .0 .position ≡ position + length (fieldBytes (recordOf n)) = pending-log .appends n log position (w .0) (w .1) .moved in
     rw (w .1) (omega arith)
 
 end-number : (x : End) → endAnswer x .number ≡ numberOf (stopOf x)
@@ -83,12 +82,12 @@ stopped-by ended q e = absurd (never (sym e))
 stopped-by (torn offset) q e = absurd (never (sym e))
 stopped-by (stopped p offset) q e = (offset, ap (λ (r : Refusal). stopped r offset) (refuse-inj e))
 
-replay-numbers : (log area : List ℕ) (q : Refusal) → notStopped (replayLog log area) ≡ refuse q → (1 ≤ q .number) × (q .number ≤ 24)
+replay-numbers : (log area : List ℕ) (q : Refusal) → notStopped (replayLog log area) ≡ refuse q → (1 ≤ q .number) × (q .number ≤ 25)
 unfolding replayed
 replay-numbers log area q = go (isRegister area)
   where
     go : (v : Bool) → notStopped (v otherwise notRegister >> accept (inBytes register applyRecord (replayFrom applyRecord 0 log (register .contents area)))) ≡ refuse q
-        → (1 ≤ q .number) × (q .number ≤ 24)
+        → (1 ≤ q .number) × (q .number ≤ 25)
     go true e =
         let s = stopped-by (replayFrom applyRecord 0 log (register .contents area) .end) q e in
         let n = pending-log .stopNumber log area q (s .0) (s .1) in
@@ -106,12 +105,12 @@ console-numbers =
       joinTold = λ bs area b. told-of _ (join-numbered bs area b);
       splitTold = λ bs area. told-of _ (split-numbered bs area);
       strictTold = λ t. of-table (strict t) (strict-numbered t);
-      issueTold = λ t b area. exact 23 _ (loans-register .numbers .issueNumber t b area);
-      returnTold = λ t area. exact 23 _ (loans-register .numbers .returnNumber t area);
+      issueTold = λ t b area. exact 26 _ (loans-register .numbers .issueNumber t b area);
+      returnTold = λ t area. exact 26 _ (loans-register .numbers .returnNumber t area);
       askTold = λ t area. rw (holder-number (askText t area) (looksText t area)) (exact 23 _ (loans-register .numbers .askNumber t area));
       countsTold = λ area. rw (counts-number (countsAsked area)) (exact 23 _ (counts-numbers area));
-      recordTold = λ ch log position. rw (record-number position (writeRecord ch log position)) (exact 24 _ (pending-log .writeNumber ch log position));
+      recordTold = λ n log position. rw (record-number position (writeRecord n log position)) (exact 24 _ (pending-log .writeNumber n log position));
       recordLength = record-length;
-      replayTold = λ log area. rw (replay-number (replayLog log area)) (exact 24 _ (replay-numbers log area));
+      replayTold = λ log area. rw (replay-number (replayLog log area)) (exact 25 _ (replay-numbers log area));
       distanceTold = λ x y. rw (distance-number (distance x y)) (of-table (distance x y) (distance-numbered x y));
     }

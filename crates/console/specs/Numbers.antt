@@ -13,14 +13,13 @@ use Rattle.iscc.specs.Distance.{distance}
 use Rattle.iscc.specs.Representation.{writtenAs, outcomeAs}
 use Rattle.iscc.specs.declared.written.Outcome.{Outcome}
 use Rattle.distance.specs.Representation.{measuredAs}
-use Rattle.loans.specs.Map.{Change}
 use Rattle.loans.specs.Contents.{issueText, returnText, askText, looksText, countsAsked}
 use Rattle.loans.specs.Fields.{fieldBytes}
 use Rattle.loans.specs.Replay.{Replayed}
 use Rattle.loans.specs.LogOrder.{stopOf}
-use Rattle.loans.specs.PendingLog.{recordOf, writeRecord, replayLog}
+use Rattle.loans.specs.PendingLog.{NumberedChange, recordOf, writeRecord, replayLog}
 use Rattle.register.specs.Representation.{countsAs}
-use Rattle.console.specs.Representation.{distanceAnswerAs, holderAnswerAs, recordOutcome, replayAnswerAs}
+use Rattle.console.specs.Representation.{distanceAnswerAs, changeAnswerAs, holderAnswerAs, recordOutcome, replayAnswerAs}
 
 -- a number that is 0 exactly where the definition accepts, and else one of the table up to the given one
 pub record NumberFor {A : Type 0} (most : ℕ) (x : Answer A) (number : ℕ) : Type 0 where
@@ -46,14 +45,14 @@ pub record ConsoleNumbers : Type 0 where
   pub splitTold : (bs : List ℕ) (area : ℕ) → ToldOf (split bs area) (outcomeAs (writtenAs (split bs area)))
   pub strictTold : (t : List ℕ) → NumberFor 19 (strict t) (numberOf (strict t))
   pub distanceTold : (x y : List ℕ) → NumberFor 19 (distance x y) (distanceAnswerAs (measuredAs (distance x y)) .number)
-  -- those of the register, which have 20 to 23 too
-  pub issueTold : (t : List ℕ) (b : ℕ) (area : List ℕ) → NumberFor 23 (issueText t b area) (numberOf (issueText t b area))
-  pub returnTold : (t area : List ℕ) → NumberFor 23 (returnText t area) (numberOf (returnText t area))
+  -- those of the register, which have 20 to 23 too, and a change 26
+  pub issueTold : (t : List ℕ) (b : ℕ) (area : List ℕ) → NumberFor 26 (issueText t b area) (changeAnswerAs (issueText t b area) .number)
+  pub returnTold : (t area : List ℕ) → NumberFor 26 (returnText t area) (changeAnswerAs (returnText t area) .number)
   pub askTold : (t area : List ℕ) → NumberFor 23 (askText t area) (holderAnswerAs (askText t area) (looksText t area) .number)
   pub countsTold : (area : List ℕ) → NumberFor 23 (countsAsked area) (countsAs (countsAsked area) .number)
   -- those of the log, which have 24 too: a record's length is told,
-  pub recordTold : (ch : Change) (log : List ℕ) (position : ℕ) → NumberFor 24 (writeRecord ch log position) (recordOutcome position (writeRecord ch log position) .number)
-  pub recordLength : (ch : Change) (log : List ℕ) (position : ℕ) → Accepted (writeRecord ch log position)
-      → recordOutcome position (writeRecord ch log position) .length ≡ length (fieldBytes (recordOf ch))
+  pub recordTold : (n : NumberedChange) (log : List ℕ) (position : ℕ) → NumberFor 24 (writeRecord n log position) (recordOutcome position (writeRecord n log position) .number)
+  pub recordLength : (n : NumberedChange) (log : List ℕ) (position : ℕ) → Accepted (writeRecord n log position)
+      → recordOutcome position (writeRecord n log position) .length ≡ length (fieldBytes (recordOf n))
   -- and a number that is 0 exactly where no record stopped the replay and the area was a register
-  pub replayTold : (log area : List ℕ) → NumberFor 24 (notStopped (replayLog log area)) (replayAnswerAs (replayLog log area) .number)
+  pub replayTold : (log area : List ℕ) → NumberFor 25 (notStopped (replayLog log area)) (replayAnswerAs (replayLog log area) .number)

@@ -1,18 +1,29 @@
 -- The C entries' answers as representations of the definitions' values.
 use Prim.Native.Nat.{ℕ, _-_}
 use mathlib.Core.List.{List}
-use Rattle.iscc.specs.Answer.{Answer, accept, refuse}
+use Rattle.iscc.specs.Answer.{Answer, accept, refuse, numberOf}
 use Rattle.iscc.specs.declared.written.Outcome.{Outcome}
+use Rattle.loans.specs.Contents.{numberTaken}
 use Rattle.loans.specs.Writer.{Written}
 use Rattle.loans.specs.Replay.{ended, torn, stopped, End, Replayed}
 use Rattle.distance.specs.declared.answer.Measured.{Measured}
 use Rattle.log.specs.declared.append.Appended.{Appended}
+use Rattle.register.specs.declared.answer.Changed.{Changed}
+use Rattle.register.specs.Representation.{changedNumber, changedRecord}
+use Rattle.console.specs.declared.lending.ChangeAnswer.{ChangeAnswer}
 use Rattle.console.specs.declared.lending.HolderAnswer.{HolderAnswer}
 use Rattle.console.specs.declared.logging.ReplayAnswer.{ReplayAnswer}
 use Rattle.console.specs.declared.distances.DistanceAnswer.{DistanceAnswer}
 
 abbrev pub distanceAnswerAs : Measured → DistanceAnswer
 distanceAnswerAs m = record { number = m .number; d = m .distance .d; n = m .distance .n; ratio = m .distance .ratio }
+
+-- an issue or a return: its number, and the record number that it took, "0 with a refusal"
+abbrev pub changeAnswerFor : Changed → ChangeAnswer
+changeAnswerFor y = record { number = changedNumber y; «record_number» = changedRecord y }
+
+abbrev pub changeAnswerAs : Answer (List ℕ) → ChangeAnswer
+changeAnswerAs x = record { number = numberOf x; «record_number» = numberTaken x }
 
 -- who has a code: "A refusal has borrower 0."; and the looks
 abbrev pub holderAnswerAs : Answer ℕ → ℕ → HolderAnswer

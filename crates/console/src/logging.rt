@@ -4,7 +4,7 @@ ghost use Prim.Native.Nat.{_≤_};
 ghost use Rattle.loans.specs.Map.{issueCode, returnCode};
 ghost use Rattle.loans.specs.Writer.{writtenAfter};
 ghost use Rattle.loans.specs.Replay.{areaReplayed};
-ghost use Rattle.loans.specs.PendingLog.{writeRecord, replayLog};
+ghost use Rattle.loans.specs.PendingLog.{NumberedChange, writeRecord, replayLog};
 ghost use Rattle.console.specs.Representation.{movedOn, recordOutcome, replayAnswerAs};
 use iscc::written::Outcome;
 use log::append;
@@ -41,22 +41,28 @@ fn told(answer: Appended, position: usize) -> Outcome
 pub extern "C" fn loans_log_issue(
     log: &mut [u8],
     position: usize,
+    record_number: u32,
     code: &[u8],
     borrower: u32,
 ) -> Outcome
-    ensures answer { λ r. ⌜ r ≡ recordOutcome position (writeRecord (issueCode (now (code .entry)) borrower) (now (log .entry)) position) ⌝ }
-    ensures log { λ _. ⌜ now (log .exit) ≡ writtenAfter (now (log .entry)) position (writeRecord (issueCode (now (code .entry)) borrower) (now (log .entry)) position) .log ⌝ }
+    ensures answer { λ r. ⌜ r ≡ recordOutcome position (writeRecord (record { number = «record_number»; change = issueCode (now (code .entry)) borrower }) (now (log .entry)) position) ⌝ }
+    ensures log { λ _. ⌜ now (log .exit) ≡ writtenAfter (now (log .entry)) position (writeRecord (record { number = «record_number»; change = issueCode (now (code .entry)) borrower }) (now (log .entry)) position) .log ⌝ }
 {
-    let answer = append::issue(log, position, code, borrower);
+    let answer = append::issue(log, position, record_number, code, borrower);
     told(answer, position)
 }
 
 #[no_mangle]
-pub extern "C" fn loans_log_return(log: &mut [u8], position: usize, code: &[u8]) -> Outcome
-    ensures answer { λ r. ⌜ r ≡ recordOutcome position (writeRecord (returnCode (now (code .entry))) (now (log .entry)) position) ⌝ }
-    ensures log { λ _. ⌜ now (log .exit) ≡ writtenAfter (now (log .entry)) position (writeRecord (returnCode (now (code .entry))) (now (log .entry)) position) .log ⌝ }
+pub extern "C" fn loans_log_return(
+    log: &mut [u8],
+    position: usize,
+    record_number: u32,
+    code: &[u8],
+) -> Outcome
+    ensures answer { λ r. ⌜ r ≡ recordOutcome position (writeRecord (record { number = «record_number»; change = returnCode (now (code .entry)) }) (now (log .entry)) position) ⌝ }
+    ensures log { λ _. ⌜ now (log .exit) ≡ writtenAfter (now (log .entry)) position (writeRecord (record { number = «record_number»; change = returnCode (now (code .entry)) }) (now (log .entry)) position) .log ⌝ }
 {
-    let answer = append::take_back(log, position, code);
+    let answer = append::take_back(log, position, record_number, code);
     told(answer, position)
 }
 

@@ -103,9 +103,17 @@ notOut = refusal 22
 abbrev pub notRegister : Refusal
 notRegister = refusal 23
 
--- no record of the log: another tag, or code bytes that are not exactly one unit or composite
+-- no record of the log: another tag, code bytes that are not exactly one unit or composite, or record number 0
 abbrev pub notRecord : Refusal
 notRecord = refusal 24
+
+-- the record is not the next: others before it are missing
+abbrev pub numberGap : Refusal
+numberGap = refusal 25
+
+-- the last record number is taken
+abbrev pub numbersSpent : Refusal
+numbersSpent = refusal 26
 
 -- the table, in its order
 abbrev pub refusals : List Refusal
@@ -134,4 +142,6 @@ refusals =
     ∷ notOut
     ∷ notRegister
     ∷ notRecord
+    ∷ numberGap
+    ∷ numbersSpent
     ∷ []

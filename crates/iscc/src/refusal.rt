@@ -77,11 +77,17 @@ impl Refusal {
     // The area is not a register.
     pub const NOT_REGISTER: Refusal = Refusal { number: 23 };
 
-    // No record of the log: another tag, or code bytes that are not exactly one unit or composite.
+    // No record of the log: another tag, code bytes that are not exactly one unit or composite, or record number 0.
     pub const NOT_RECORD: Refusal = Refusal { number: 24 };
 
+    // The record is not the next: others before it are missing.
+    pub const NUMBER_GAP: Refusal = Refusal { number: 25 };
+
+    // The last record number is taken.
+    pub const NUMBERS_SPENT: Refusal = Refusal { number: 26 };
+
     // Every refusal in the order of the table: ties the names above to those of the definitions.
-    pub fn all() -> [Refusal; 24]
+    pub fn all() -> [Refusal; 26]
         ensures { λ r. ⌜ r ≡ refusals ⌝ }
     {
         [
@@ -109,6 +115,8 @@ impl Refusal {
             Refusal::NOT_OUT,
             Refusal::NOT_REGISTER,
             Refusal::NOT_RECORD,
+            Refusal::NUMBER_GAP,
+            Refusal::NUMBERS_SPENT,
         ]
     }
 }

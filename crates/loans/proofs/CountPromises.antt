@@ -19,6 +19,7 @@ use Rattle.iscc.proofs.Table.{upTo, at, entry}
 use Rattle.loans.specs.Loan.{Loan}
 use Rattle.loans.specs.Counts.{codeType, countOf, counts}
 use Rattle.loans.specs.Moves.{numberAt}
+use Rattle.loans.specs.Numbered.{loansOf}
 use Rattle.loans.specs.Contents.{contentsOf, isRegister, countsAsked}
 use Rattle.loans.specs.Good.{GoodLoans}
 use Rattle.loans.specs.CountPromises.{numbersIn, HowManyOut}
@@ -26,10 +27,10 @@ use Rattle.loans.proofs.CodeType.{code-type}
 use Rattle.loans.proofs.Contents.{register-sound}
 use Rattle.loans.proofs.CodesOut.{numbers-true, kept, kept-by-all, codes-out}
 
-are-true : (area : List ℕ) → isRegister area ≡ true → numbersIn area ≡ counts (contentsOf area)
-are-true area e = ext-getD 0 (numbersIn area) (counts (contentsOf area)) refl (λ i h. entry (λ k. numberAt k area) 0 8 i h ∙ numbers-true area e i h)
+are-true : (area : List ℕ) → isRegister area ≡ true → numbersIn area ≡ counts (loansOf (contentsOf area))
+are-true area e = ext-getD 0 (numbersIn area) (counts (loansOf (contentsOf area))) refl (λ i h. entry (λ k. numberAt k area) 0 8 i h ∙ numbers-true area e i h)
 
-disagreement : (area : List ℕ) (i : ℕ) → i < 8 → (numberAt i area ≡ getD (counts (contentsOf area)) i 0 → ⊥) → isRegister area ≡ false
+disagreement : (area : List ℕ) (i : ℕ) → i < 8 → (numberAt i area ≡ getD (counts (loansOf (contentsOf area))) i 0 → ⊥) → isRegister area ≡ false
 disagreement area i h d = go (isRegister area) refl
   where
     go : (b : Bool) → isRegister area ≡ b → b ≡ false
@@ -56,27 +57,27 @@ sum-types (l ∷ ls) g = omega (arith, one-type (codeType (l .code)) (code-type 
 sum : (area : List ℕ) → Below 256 area → isRegister area ≡ true
     → numberAt 0 area ≡ numberAt 1 area + numberAt 2 area + numberAt 3 area + numberAt 4 area + numberAt 5 area + numberAt 6 area + numberAt 7 area
 sum area k e =
-    let n : (i : ℕ) → i < 8 → numberAt i area ≡ getD (counts (contentsOf area)) i 0 = numbers-true area e in
+    let n : (i : ℕ) → i < 8 → numberAt i area ≡ getD (counts (loansOf (contentsOf area))) i 0 = numbers-true area e in
     rw (n 0 (omega arith), n 1 (omega arith), n 2 (omega arith), n 3 (omega arith), n 4 (omega arith), n 5 (omega arith), n 6 (omega arith), n 7 (omega arith))
-    (sum-types (contentsOf area) (register-sound .good area k e .loans))
+    (sum-types (loansOf (contentsOf area)) (register-sound .good area k e .list .loans))
 
 -- ---- who asks for them
 
 told : (area ns : List ℕ) → countsAsked area ≡ accept ns → ns ≡ numbersIn area
 unfolding countsAsked
 told area ns e =
-    let p = passed (isRegister area) notRegister (accept (counts (contentsOf area))) e in
+    let p = passed (isRegister area) notRegister (accept (counts (loansOf (contentsOf area)))) e in
     sym (accept-inj (p .1)) ∙ sym (are-true area (p .0))
 
 tests : (area : List ℕ) → Exactly (once notRegister (isRegister area) ∷ []) (countsAsked area)
 unfolding countsAsked
-tests area = exactly _ _ (step-once (isRegister area) notRegister (accept (counts (contentsOf area))) [] (done _))
+tests area = exactly _ _ (step-once (isRegister area) notRegister (accept (counts (loansOf (contentsOf area)))) [] (done _))
 
 pub not-told : (area : List ℕ) (q : Refusal) → countsAsked area ≡ refuse q → (q ≡ notRegister) × (isRegister area ≡ false)
 unfolding countsAsked
 not-told area q e = go (isRegister area) refl e
   where
-    go : (b : Bool) → isRegister area ≡ b → (b otherwise notRegister >> accept (counts (contentsOf area))) ≡ refuse q → (q ≡ notRegister) × (b ≡ false)
+    go : (b : Bool) → isRegister area ≡ b → (b otherwise notRegister >> accept (counts (loansOf (contentsOf area)))) ≡ refuse q → (q ≡ notRegister) × (b ≡ false)
     go true w x = absurd (never (sym x))
     go false w x = (sym (refuse-inj x), refl)
 

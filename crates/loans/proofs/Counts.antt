@@ -12,7 +12,7 @@ use lib.Dec.{eqb}
 use borrow.Author.Tests.{eq-eqb, ne-eqb}
 use Rattle.iscc.specs.Digits.{digits, value, Below}
 use Rattle.iscc.specs.Lists.{Reordered, nil, keep, swap, then}
-use Rattle.iscc.proofs.Digits.{length-digits, digits-below, value-digits, below-append, below-all}
+use Rattle.iscc.proofs.Digits.{length-digits, value-digits, below-all}
 use Rattle.iscc.proofs.Order.{length-reordered}
 use Rattle.iscc.proofs.Table.{table, entry}
 use Rattle.octets.specs.Order.{before}
@@ -29,11 +29,6 @@ length-pairs : (ns : List ℕ) → length (inPairs ns) ≡ 2 * length ns
 unfolding inPairs
 length-pairs [] = refl
 length-pairs (n ∷ ns) = let d = length-digits 8 2 n in let r = length-pairs ns in simp length-append (omega arith)
-
-below-pairs : (ns : List ℕ) → Below 256 (inPairs ns)
-unfolding inPairs
-below-pairs [] = tt
-below-pairs (n ∷ ns) = below-append 256 (digits 8 2 n) (inPairs ns) (digits-below 8 2 n) (below-pairs ns)
 
 -- what starts behind the first pair
 behind-pair : (n : ℕ) (bs : List ℕ) (j k : ℕ) → j ≡ 2 + k → drop j (digits 8 2 n ++ bs) ≡ drop k bs
@@ -76,10 +71,6 @@ tally-at ls i h = entry (tally ls) 0 8 i h
 pub length-counts : (ls : List Loan) → length (countsBytes ls) ≡ 16
 unfolding countsBytes
 length-counts ls = length-pairs (counts ls)
-
-pub below-counts : (ls : List Loan) → Below 256 (countsBytes ls)
-unfolding countsBytes
-below-counts ls = below-pairs (counts ls)
 
 pub no-counts : countsBytes [] ≡ zeros 16
 unfolding countsBytes inPairs countOf digits zeros

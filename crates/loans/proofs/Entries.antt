@@ -1,5 +1,5 @@
 -- Codes that mean the same are one entry of a register, however they are typed. Over any register that changes and asks as the plain
--- map does.
+-- map with its number does.
 use Prim.Native.Nat.{ℕ, _<_}
 use mathlib.Core.Path.{_≡_, refl, sym, _∙_, ap}
 use native.Mathlib.Omega.{arith}
@@ -21,12 +21,15 @@ use Rattle.iscc.proofs.Codes.{code-means, codes-and-texts}
 use Rattle.loans.specs.Loan.{Loan, loanOf, find, isOut}
 use Rattle.loans.specs.Map.{Change, issueCode, returnCode, changeWith, mapChanged, holderOf, mapAsked}
 use Rattle.loans.specs.Calls.{issued, returned, borrowerOf}
+use Rattle.loans.specs.Numbered.{Contents, mapNumbered, mapNumberedAsked}
 use Rattle.loans.specs.Register.{Register, changedArea, askedArea}
-use Rattle.loans.specs.Good.{Distinct, GoodChange, Sound}
+use Rattle.loans.specs.Good.{Distinct, GoodContents, GoodChange, Sound}
 use Rattle.loans.specs.Promises.{OneEntry}
 use Rattle.loans.proofs.Loan.{code-in, read-is, find-here, find-there, find-without-other, find-without-same}
-use Rattle.loans.proofs.Map.{Both, Held, same-refl}
+use Rattle.loans.proofs.Map.{Both}
 use Rattle.loans.proofs.Calls.{InArea, area-changes, area-asks}
+use Rattle.loans.proofs.Numbered.{taken}
+use Rattle.loans.proofs.Contents.{HeldContents, held-good, held-self}
 
 -- ---- texts and their codes
 
@@ -76,24 +79,15 @@ both-accept Rel (refuse p) y s h e = absurd (never e)
 
 -- ---- one change of a register, by texts
 
-module _ {S : Type 0} (r : Register S) (loans : S → List Loan) (Good : S → Type 0) (sound : Sound r Good)
-    (apart : (s : S) → Good s → Distinct (loans s))
-    (changes : (ch : Change) (s : S) (m : List Loan) → GoodChange ch → Held loans Good s m → Both (Held loans Good) (r .changes ch s) (mapChanged ch m))
-    (asks : (c : List ℕ) (s : S) (m : List Loan) → Held loans Good s m → r .asks c s ≡ mapAsked c m) where
-  abbrev Holds : List ℕ → List Loan → Type 0
-  Holds = InArea r (Held loans Good)
+module _ (r : Register Contents) (sound : Sound r GoodContents)
+    (changes : (ch : Change) (s m : Contents) → GoodChange ch → HeldContents s m → Both HeldContents (r .changes ch s) (mapNumbered ch m))
+    (asks : (c : List ℕ) (s m : Contents) → HeldContents s m → r .asks c s ≡ mapNumberedAsked c m) where
+  abbrev Holds : List ℕ → Contents → Type 0
+  Holds = InArea r HeldContents
 
-  abbrev mapOf : List ℕ → List Loan
-  mapOf area = loans (r .contents area)
-
-  holds-own : (area : List ℕ) → Below 256 area → r .valid area ≡ true → Holds area (mapOf area)
+  holds-own : (area : List ℕ) → Below 256 area → r .valid area ≡ true → Holds area (r .contents area)
   holds-own area k v =
-      let g : Good (r .contents area) = sound .good area k v in
-      record {
-        contents = r .contents area;
-        held = record { good = g; same = same-refl (mapOf area); distinct = apart (r .contents area) g };
-        bytes = sound .again area k v;
-      }
+      record { contents = r .contents area; held = held-self (r .contents area) (sound .good area k v); bytes = sound .again area k v }
 
   is-valid : (ch : Change) (area area′ : List ℕ) → changedArea r ch area ≡ accept area′ → r .valid area ≡ true
   unfolding changedArea
@@ -101,17 +95,18 @@ module _ {S : Type 0} (r : Register S) (loans : S → List Loan) (Good : S → T
 
   -- an accepted change is one of the map that the area stands for
   after-change : (ch : Change) (area area′ : List ℕ) → GoodChange ch → Below 256 area → changedArea r ch area ≡ accept area′
-      → (m′ : List Loan) × (mapChanged ch (mapOf area) ≡ accept m′) × Holds area′ m′
+      → (m′ : Contents) × (mapChanged ch (r .contents area .loans) ≡ accept (m′ .loans)) × Holds area′ m′
   after-change ch area area′ g k e =
-      both-accept Holds (changedArea r ch area) (mapChanged ch (mapOf area)) area′
-      (area-changes r Good sound (Held loans Good) (λ s m h. h .good) mapChanged mapAsked changes asks ch area (mapOf area) g (holds-own area k (is-valid ch area area′ e))) e
+      let b = both-accept Holds (changedArea r ch area) (mapNumbered ch (r .contents area)) area′
+      (area-changes r GoodContents sound HeldContents held-good mapNumbered mapNumberedAsked changes asks ch area (r .contents area) g (holds-own area k (is-valid ch area area′ e))) e in
+      (b .0, taken mapChanged ch (r .contents area) (b .0) (b .1) .loans, b .2)
 
-  asks-map : (c area : List ℕ) (m : List Loan) → Holds area m → askedArea r c area ≡ holderOf (find c m)
+  asks-map : (c area : List ℕ) (m : Contents) → Holds area m → askedArea r c area ≡ holderOf (find c (m .loans))
   unfolding mapAsked
-  asks-map c area m h = area-asks r Good sound (Held loans Good) (λ s m h. h .good) mapChanged mapAsked changes asks c area m h
+  asks-map c area m h = area-asks r GoodContents sound HeldContents held-good mapNumbered mapNumberedAsked changes asks c area m h
 
-  module _ (t u c : List ℕ) (holder : Option ℕ) (area area′ : List ℕ) (m m′ : List Loan) (e : codeBytes t ≡ accept c)
-      (before : Holds area m) (after : Holds area′ m′) (entry : Entry c holder m m′) where
+  module _ (t u c : List ℕ) (holder : Option ℕ) (area area′ : List ℕ) (m m′ : Contents) (e : codeBytes t ≡ accept c)
+      (before : Holds area m) (after : Holds area′ m′) (entry : Entry c holder (m .loans) (m′ .loans)) where
     same-text : meaningOfText t ≡ meaningOfText u → borrowerOf (askedArea r) u area′ ≡ holderOf holder
     unfolding borrowerOf
     same-text s = rw (sym (same-code t u s) ∙ e, asks-map c area′ m′ after, entry .this)
@@ -128,11 +123,11 @@ module _ {S : Type 0} (r : Register S) (loans : S → List Loan) (Good : S → T
   record Step (t : List ℕ) (holder : Option ℕ) (area area′ : List ℕ) : Type 0 where
     code : List ℕ
     is : codeBytes t ≡ accept code
-    map : List Loan
-    map′ : List Loan
+    map : Contents
+    map′ : Contents
     before : Holds area map
     after : Holds area′ map′
-    entry : Entry code holder map map′
+    entry : Entry code holder (map .loans) (map′ .loans)
 
   issue-step : (t : List ℕ) (b : ℕ) (area area′ : List ℕ) → Below 256 area → b < 4294967296 → issued (changedArea r) t b area ≡ accept area′ → Step t (some b) area area′
   unfolding issued
@@ -142,11 +137,11 @@ module _ {S : Type 0} (r : Register S) (loans : S → List Loan) (Good : S → T
       record {
         code = w .0;
         is = w .1;
-        map = mapOf area;
+        map = r .contents area;
         map′ = a .0;
         before = holds-own area k (is-valid (issueCode (w .0) b) area area′ (w .2));
         after = a .2;
-        entry = issue-entry (w .0) b (mapOf area) (a .0) (a .1);
+        entry = issue-entry (w .0) b (r .contents area .loans) (a .0 .loans) (a .1);
       }
 
   return-step : (t area area′ : List ℕ) → Below 256 area → returned (changedArea r) t area ≡ accept area′ → Step t none area area′
@@ -158,11 +153,11 @@ module _ {S : Type 0} (r : Register S) (loans : S → List Loan) (Good : S → T
       record {
         code = w .0;
         is = w .1;
-        map = mapOf area;
+        map = r .contents area;
         map′ = a .0;
         before = o;
         after = a .2;
-        entry = return-entry (w .0) (mapOf area) (a .0) (o .held .distinct) (a .1);
+        entry = return-entry (w .0) (r .contents area .loans) (a .0 .loans) (o .held .list .distinct) (a .1);
       }
 
   module _ (t u : List ℕ) (holder : Option ℕ) (area area′ : List ℕ) (s : Step t holder area area′) where

@@ -22,11 +22,13 @@ use Rattle.loans.specs.Moves.{pasted, numberAt, withNumber, oneMore, one
 use Rattle.loans.specs.Fields.{fieldBytes, firstSize, firstIsWhole, firstField}
 use Rattle.loans.specs.Log.{recordsUpTo, recordsFrom}
 use Rattle.loans.specs.Replay.{replayAll}
-use Rattle.loans.specs.Records.{isRecord, changeOf, applyChange}
+use Rattle.loans.specs.Records.{isRecord, changeOf}
+use Rattle.loans.specs.Numbered.{takingNext}
+use Rattle.loans.specs.PendingLog.{isNumbered, numberedOf, inTurn, applyWith}
 use Rattle.loans.specs.Examples.{Examples}
 
 pub examples : Examples
-unfolding digits value allBelow byteCount spareCount fromDigits upper indexOf digitIn decode base32 firstOf prefixOf rowOf rowBy varnibble readVarnibble nibbles packed headerBytes readHeader typeOf mainTypeOf sets setOf unitTypes compositeSubtype isWide row bodyBytes itemBytes readItem readOne cut compositeOf wideOf meaningAs unitLengthNumber flatten itemOf readUpTo readItems every pairwise bodyIn subtypeIn subtypeOf compositeFrom meaningOfItems isBlank trimStart trimEnd sameBytes scheme schemeLength dropHyphens trimmed behindScheme cleaned decodeRun payload itemsOfText meaningOfText codeBytes oneCode find without before zeros free placeBytes placesBytes placeOf isPlace follows inOrder placed put halving searched codeType countOf inPairs countsBytes pasted numberAt withNumber oneMore oneLess changeWith fieldBytes firstSize firstIsWhole firstField recordsUpTo recordsFrom replayAll isRecord changeOf applyChange
+unfolding digits value allBelow byteCount spareCount fromDigits upper indexOf digitIn decode base32 firstOf prefixOf rowOf rowBy varnibble readVarnibble nibbles packed headerBytes readHeader typeOf mainTypeOf sets setOf unitTypes compositeSubtype isWide row bodyBytes itemBytes readItem readOne cut compositeOf wideOf meaningAs unitLengthNumber flatten itemOf readUpTo readItems every pairwise bodyIn subtypeIn subtypeOf compositeFrom meaningOfItems isBlank trimStart trimEnd sameBytes scheme schemeLength dropHyphens trimmed behindScheme cleaned decodeRun payload itemsOfText meaningOfText codeBytes oneCode find without before zeros free placeBytes placesBytes placeOf isPlace follows inOrder placed put halving searched codeType countOf inPairs countsBytes pasted numberAt withNumber oneMore oneLess changeWith fieldBytes firstSize firstIsWhole firstField recordsUpTo recordsFrom replayAll isRecord changeOf takingNext isNumbered numberedOf inTurn applyWith
 examples =
     record {
       place = refl;
@@ -73,15 +75,31 @@ examples =
       wideIssued = refl;
       labelWritten = refl;
       cutAt0 = refl;
-      cutAt24 = refl;
-      cutAt25 = refl;
-      cutAt26 = refl;
-      cutAt46 = refl;
+      cutAt28 = refl;
+      cutAt29 = refl;
+      cutAt30 = refl;
+      cutAt54 = refl;
       twoBytes = refl;
       lengthDamaged = refl;
       zerosWhole = refl;
       zerosNoRecord = refl;
       otherTag = refl;
       issueShort = refl;
+      oldIssue = refl;
+      oldReturn = refl;
       issuedTwice = refl;
+      takesNext = refl;
+      takesLast = refl;
+      spent = refl;
+      refusedTakesNone = refl;
+      numberZero = refl;
+      skipped = refl;
+      skippedOther = refl;
+      damagedNotSkipped = refl;
+      gap = refl;
+      gapFirst = refl;
+      nextNotOut = refl;
+      nextTaken = refl;
+      twiceFirst = refl;
+      twiceSecond = refl;
     }

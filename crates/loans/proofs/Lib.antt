@@ -10,6 +10,7 @@ pub mod OrderedPlaces
 pub mod Halving
 pub mod Counts
 pub mod CodeType
+pub mod Numbered
 pub mod Contents
 pub mod Moves
 pub mod RefusalOrder
@@ -33,5 +34,7 @@ pub mod Balance
 pub mod CodesOut
 pub mod CountPromises
 pub mod LogPromises
+pub mod Again
+pub mod NumberPromises
 pub mod WideLoans
 pub mod Examples

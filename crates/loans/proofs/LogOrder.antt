@@ -1,54 +1,68 @@
 -- The writer and replay answer as their tests say, and a replay that is stopped tells where that record starts.
 use Prim.Native.Nat.{ℕ, zero, suc, _+_, _<_}
 use mathlib.Core.Path.{_≡_, refl, sym, ap}
-use mathlib.Core.Bool.{Bool, true, not}
+use mathlib.Core.Bool.{Bool, true, false, cond, not, _&&_, _||_}
 use mathlib.Core.Option.{Option, none, some}
 use mathlib.Core.List.{List, [], _∷_}
 use native.Mathlib.Nat.{not-suc-le-zero, le-of-suc-le-suc}
 use native.Mathlib.Omega.{arith}
 use lib.ListN.{length}
-use lib.Dec.{leb, ltb}
-use Rattle.iscc.specs.Refusals.{Refusal, areaTooShort, alreadyOut, allOut, notOut, notRecord}
-use Rattle.iscc.specs.Answer.{Answer, accept, refuse}
+use lib.Dec.{eqb, leb, ltb}
+use Rattle.iscc.specs.Refusals.{Refusal, areaTooShort, alreadyOut, allOut, notOut, notRecord, numberGap}
+use Rattle.iscc.specs.Answer.{Answer, accept, refuse, _>>_, _otherwise_}
 use Rattle.iscc.specs.Exactly.{Rule, HoldAt, RuleOn, inTurn, once}
 use Rattle.iscc.proofs.Answer.{never}
-use Rattle.iscc.proofs.Steps.{By, refusing, holding, step-once, done}
+use Rattle.iscc.proofs.Steps.{By, refusing, holding, step-once, done, made-of}
 use Rattle.iscc.proofs.Stages.{hold-all, hold-turn, broken-turn, hold-moved, broken-moved}
-use Rattle.loans.specs.Loan.{Loan, loanOf, oneCode, isOut}
+use Rattle.loans.specs.Loan.{Loan, loanOf, oneCode, isOut, without}
 use Rattle.loans.specs.Map.{Change, issueCode, returnCode, changeWith}
+use Rattle.loans.specs.Order.{put}
+use Rattle.loans.specs.Numbered.{Contents}
+use Rattle.loans.specs.Contents.{changedLoans}
 use Rattle.loans.specs.Fields.{Field, fieldBytes}
 use Rattle.loans.specs.Log.{Record}
 use Rattle.loans.specs.Replay.{End, ended, torn, stopped, Replayed, endOf, goOn, replayAll}
 use Rattle.loans.specs.Writer.{appended}
-use Rattle.loans.specs.Records.{codeOf, isRecord, changeOf, applyChange}
-use Rattle.loans.specs.PendingLog.{recordOf, writeRecord}
+use Rattle.loans.specs.Records.{codeOf}
+use Rattle.loans.specs.PendingLog.{NumberedChange, recordOf, numberIn, isNumbered, numberedOf, writeRecord, inTurn as turn, numbering, applyWith, applyRecord}
 use Rattle.loans.specs.LogOrder.{writeStages, Meeting, notYetOut, hasRoom, isThere, recordRules, recordTest, recordStage, stopOf, StopTold}
 
 -- ---- the writer
 
-pub write-by : (ch : Change) (log : List ℕ) (position : ℕ) → By (writeStages ch log position) (writeRecord ch log position)
+pub write-by : (n : NumberedChange) (log : List ℕ) (position : ℕ) → By (writeStages n log position) (writeRecord n log position)
 unfolding writeStages writeRecord appended
-write-by ch log position =
-    step-once (oneCode (codeOf ch)) notRecord (appended (fieldBytes (recordOf ch)) log position) _
-    (step-once (leb (position + length (fieldBytes (recordOf ch))) (length log)) areaTooShort _ [] (done _))
+write-by n log position =
+    step-once (oneCode (codeOf (n .change)) && not (eqb (n .number) 0)) notRecord (appended (fieldBytes (recordOf n)) log position) _
+    (step-once (leb (position + length (fieldBytes (recordOf n))) (length log)) areaTooShort _ [] (done _))
 
 -- ---- one record: its rules in turn
 
-module _ {S : Type 0} (loans : S → List Loan) (put : Loan → S → S) (cleared : List ℕ → S → S) (f : Field) (s : S) where
-  change-turn : (ch : Change)
-      → By (once alreadyOut (notYetOut ch (loans s)) ∷ once allOut (hasRoom ch (loans s)) ∷ once notOut (isThere ch (loans s)) ∷ [])
-      (changeWith loans put cleared ch s)
-  unfolding changeWith
-  change-turn (issueCode c b) =
-      let x : Answer S = accept (put (loanOf c b) s) in
-      step-once (not (isOut c (loans s))) alreadyOut _ _ (step-once (ltb (length (loans s)) 256) allOut x _ (step-once true notOut x [] (done _)))
-  change-turn (returnCode c) =
-      let x = step-once (isOut c (loans s)) notOut (accept (cleared c s)) [] (done _) in
-      step-once true alreadyOut _ _ (step-once true allOut _ _ x)
+change-turn : (ch : Change) (ls : List Loan)
+    → By (once alreadyOut (notYetOut ch ls) ∷ once allOut (hasRoom ch ls) ∷ once notOut (isThere ch ls) ∷ []) (changedLoans ch ls)
+unfolding changeWith
+change-turn (issueCode c b) ls =
+    let x : Answer (List Loan) = accept (put (loanOf c b) ls) in
+    step-once (not (isOut c ls)) alreadyOut _ _ (step-once (ltb (length ls) 256) allOut x _ (step-once true notOut x [] (done _)))
+change-turn (returnCode c) ls =
+    let x = step-once (isOut c ls) notOut (accept (without c ls)) [] (done _) in
+    step-once true alreadyOut _ _ (step-once true allOut _ _ x)
 
-  pub record-by : By (inTurn (recordRules loans) (record { field = f; state = s })) (applyChange 1 (changeWith loans put cleared) f s)
-  unfolding applyChange
-  record-by = step-once (isRecord 1 f) notRecord _ _ (change-turn (changeOf 1 f))
+pub record-by : (f : Field) (s : Contents) → By (inTurn recordRules (record { field = f; state = s })) (applyRecord f s)
+unfolding applyWith turn
+record-by f s = step-once (isNumbered f) notRecord _ _ (go (leb (numberIn f) (s .last)))
+  where
+    n : NumberedChange
+    n = numberedOf f
+
+    next : Bool
+    next = eqb (numberIn f) (suc (s .last))
+
+    go : (b : Bool)
+        → By
+        (once numberGap (b || next) ∷ once alreadyOut (b || notYetOut (n .change) (s .loans)) ∷ once allOut (b || hasRoom (n .change) (s .loans)) ∷ once notOut (b || isThere (n .change) (s .loans)) ∷ [])
+        (cond b (accept s) (next otherwise numberGap >> numbering changedLoans n s))
+    go true = step-once true numberGap _ _ (step-once true alreadyOut _ _ (step-once true allOut _ _ (step-once true notOut _ [] (done s))))
+    go false = step-once next numberGap _ _ (made-of _ (changedLoans (n .change) (s .loans)) _ (change-turn (n .change) (s .loans)))
 
 -- ---- records from the left
 

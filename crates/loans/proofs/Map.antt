@@ -79,9 +79,6 @@ not-out c m e = go (find c m) e
     go none e = refl
     go (some b) e = absurd (true≢false e)
 
-pub out-not : (c : List ℕ) (m : List Loan) → find c m ≡ none → isOut c m ≡ false
-out-not c m e = ap isSome e
-
 -- ---- a register's answer and another's: both accept, and the states are related; or both refuse alike
 
 abbrev pub Both : {S M : Type 0} → (S → M → Type 0) → Answer S → Answer M → Type 0

@@ -13,7 +13,7 @@ use borrow.Author.Tests.{ltb-true, ltb-false}
 use Rattle.iscc.specs.Digits.{Below, value}
 use Rattle.iscc.proofs.Booleans.{both-true}
 use Rattle.loans.specs.Loan.{Loan}
-use Rattle.loans.specs.Place.{free, placesBytes, placesOf, arePlaces, loansIn}
+use Rattle.loans.specs.Place.{placesBytes, placesOf, arePlaces, loansIn}
 use Rattle.loans.specs.Order.{inOrder, placed, areOrdered, loansAt}
 use Rattle.loans.specs.Halving.{loanIn}
 use Rattle.loans.specs.Good.{GoodLoans, GoodPlaces, Rising}
@@ -69,18 +69,6 @@ placed-at n [] i h = absurd (not-suc-le-zero h)
 placed-at n (l ∷ ls) zero h = refl
 placed-at n (l ∷ ls) (suc i) h = placed-at (n - 1) ls i (le-of-suc-le-suc h)
 
-free-at : (n i : ℕ) → getD (free n) i none ≡ none
-unfolding free
-free-at zero i = refl
-free-at (suc n) zero = refl
-free-at (suc n) (suc i) = free-at n i
-
-placed-free : (n : ℕ) (ls : List Loan) (i : ℕ) → length ls ≤ i → getD (placed n ls) i none ≡ none
-unfolding placed
-placed-free n [] i h = free-at n i
-placed-free n (l ∷ ls) zero h = absurd (not-suc-le-zero h)
-placed-free n (l ∷ ls) (suc i) h = placed-free (n - 1) ls i (le-of-suc-le-suc h)
-
 module _ (bs : List ℕ) (o : areOrdered bs ≡ true) where
   pub are-places : arePlaces 256 bs ≡ true
   unfolding areOrdered
@@ -101,9 +89,6 @@ module _ (bs : List ℕ) (o : areOrdered bs ≡ true) where
   pub place-used : (i : ℕ) → i < length (loansAt bs) → getD (placesOf 256 bs) i none ≡ some (loanIn (loansAt bs) i)
   place-used i h = ap (λ (ps : List (Option Loan)). getD ps i none) (sym loans-placed) ∙ placed-at 256 (loansAt bs) i h
 
-  pub place-free : (i : ℕ) → length (loansAt bs) ≤ i → getD (placesOf 256 bs) i none ≡ none
-  place-free i h = ap (λ (ps : List (Option Loan)). getD ps i none) (sym loans-placed) ∙ placed-free 256 (loansAt bs) i h
-
   module _ (size : length bs ≡ 12288) where
     module _ (k : Below 256 bs) where
       back : PlacesBack 256 bs
@@ -121,13 +106,6 @@ module _ (bs : List ℕ) (o : areOrdered bs ≡ true) where
     module _ (i : ℕ) (h : i < 256) where
       not-both : (l : Loan) → getD (placesOf 256 bs) i none ≡ none → getD (placesOf 256 bs) i none ≡ some l → ⊥
       not-both l e f = let w = sym e ∙ f in let z : _≡_ {A = ℕ} 0 1 = cc in omega arith
-
-      pub used-by-byte : (getD bs (48 * i) 0 ≡ 0 → ⊥) → i < length (loansAt bs)
-      used-by-byte z = go (ltb i (length (loansAt bs))) refl
-        where
-          go : (b : Bool) → ltb i (length (loansAt bs)) ≡ b → i < length (loansAt bs)
-          go true e = ltb-true i (length (loansAt bs)) e
-          go false e = absurd (not-both _ (place-free i (ltb-false i (length (loansAt bs)) e)) (is-used bs i size h are-places _ refl z .1))
 
       pub free-by-byte : getD bs (48 * i) 0 ≡ 0 → length (loansAt bs) ≤ i
       free-by-byte z = go (ltb i (length (loansAt bs))) refl

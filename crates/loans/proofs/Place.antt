@@ -84,8 +84,9 @@ place-is (some l) g =
     let z : eqb (length (l .code)) 0 ≡ false = ne-eqb (length (l .code)) 0 (λ e. omega arith) in
     rw (z, le-leb (length (l .code)) 42 m, rest-code (l .code) ds, g .code .one, rest-fill (l .code) ds m) (zeros-test (43 - length (l .code)))
 
-pub borrower-back : (b : ℕ) → b < 4294967296 → value 8 (digits 8 4 b) ≡ b
-borrower-back b h = value-digits 8 4 b ∙ mod-eq-of-lt h
+-- a borrower, or a record number
+pub four-bytes-back : (n : ℕ) → n < 4294967296 → value 8 (digits 8 4 n) ≡ n
+four-bytes-back n h = value-digits 8 4 n ∙ mod-eq-of-lt h
 
 pub place-of : (p : Option Loan) → GoodPlace p → placeOf (placeBytes p) ≡ p
 unfolding placeBytes placeOf zeros
@@ -95,7 +96,7 @@ place-of (some l) g =
     let m : length (l .code) ≤ 42 = g .code .most in
     let ds : List ℕ = digits 8 4 (l .borrower) in
     let z : eqb (length (l .code)) 0 ≡ false = ne-eqb (length (l .code)) 0 (λ e. omega arith) in
-    let v : value 8 (take 4 ds) ≡ l .borrower = ap (value 8) (take-all 4 ds (omega (arith, length-digits 8 4 (l .borrower)))) ∙ borrower-back (l .borrower) (g .borrower) in
+    let v : value 8 (take 4 ds) ≡ l .borrower = ap (value 8) (take-all 4 ds (omega (arith, length-digits 8 4 (l .borrower)))) ∙ four-bytes-back (l .borrower) (g .borrower) in
     rw (z, rest-code (l .code) ds, rest-back (l .code) ds m, v)
 
 -- ---- from 48 bytes to a place and back

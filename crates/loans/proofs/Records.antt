@@ -1,4 +1,4 @@
--- A record of a change, written and read back; what is read is a good change.
+-- The change in a record, written and read back; what is read is a good change.
 use Prim.Native.Nat.{ℕ, suc, _*_, _≤_, _<_}
 use mathlib.Core.Path.{_≡_, refl}
 use mathlib.Core.Bool.{Bool, true, false, cond, _&&_}
@@ -10,19 +10,16 @@ use lib.Seq.{take-at, drop-at}
 use lib.Pow.{pow-mono}
 use lib.Dec.{eqb}
 use borrow.Author.Tests.{eq-eqb, ne-eqb}
-use Rattle.iscc.specs.Answer.{Answer, _>>_, _otherwise_}
-use Rattle.iscc.specs.Refusals.{notRecord}
 use Rattle.iscc.specs.Digits.{digits, value, Below}
 use Rattle.iscc.proofs.Digits.{length-digits, value-lt, below-take, below-drop}
 use Rattle.iscc.proofs.Booleans.{both-true}
 use Rattle.loans.specs.Loan.{oneCode}
 use Rattle.loans.specs.Map.{Change, issueCode, returnCode}
 use Rattle.loans.specs.Fields.{Field}
-use Rattle.loans.specs.Records.{bodyOf, fieldOf, isRecord, changeOf, applyChange}
+use Rattle.loans.specs.Records.{bodyOf, fieldOf, isRecord, changeOf}
 use Rattle.loans.specs.Good.{GoodChange}
 use Rattle.loans.proofs.Loan.{is-code}
-use Rattle.loans.proofs.Map.{Both}
-use Rattle.loans.proofs.Place.{borrower-back}
+use Rattle.loans.proofs.Place.{four-bytes-back}
 
 pub body-length : (ch : Change) → GoodChange ch → length (bodyOf ch) ≤ 46
 body-length (issueCode c b) g =
@@ -43,13 +40,8 @@ pub change-back : (k : ℕ) (ch : Change) → GoodChange ch → changeOf k (fiel
 unfolding changeOf
 change-back k (issueCode c b) g =
     let d : length (digits 8 4 b) ≡ 4 = length-digits 8 4 b in
-    rw (eq-eqb k k refl, drop-at (digits 8 4 b) c 4 d, take-at (digits 8 4 b) c 4 d, borrower-back b (g .borrower))
+    rw (eq-eqb k k refl, drop-at (digits 8 4 b) c 4 d, take-at (digits 8 4 b) c 4 d, four-bytes-back b (g .borrower))
 change-back k (returnCode c) g = rw (next-tag k)
-
--- a record that was written is applied as its change
-pub record-applies : {S : Type 0} (k : ℕ) (change : Change → S → Answer S) (ch : Change) (s : S) → GoodChange ch → applyChange k change (fieldOf k ch) s ≡ change ch s
-unfolding applyChange
-record-applies k change ch s g = rw (record-is k ch g, change-back k ch g)
 
 pub small-value : (ds : List ℕ) → Below 256 ds → length ds ≤ 4 → value 8 ds < 4294967296
 small-value ds k l = lt-of-lt-of-le (value-lt 8 ds k) (pow-mono {i = 8 * length ds} {j = 32} (omega arith))
@@ -66,14 +58,3 @@ good-change k f b e = go (eqb (f .tag) k) e
           borrower = small-value (take 4 (f .body)) (below-take 256 4 (f .body) b) (simp length-take (omega arith));
         }
     go false w = is-code (f .body) b (both-true (eqb (f .tag) (suc k)) (oneCode (f .body)) w .1)
-
--- changes that keep two states alike do so from a record too
-pub record-both : {S M : Type 0} (k : ℕ) (change : Change → S → Answer S) (change′ : Change → M → Answer M) (Rel : S → M → Type 0)
-    → ((ch : Change) (s : S) (m : M) → GoodChange ch → Rel s m → Both Rel (change ch s) (change′ ch m))
-    → (f : Field) (s : S) (m : M) → Below 256 (f .body) → Rel s m → Both Rel (applyChange k change f s) (applyChange k change′ f m)
-unfolding applyChange
-record-both k change change′ Rel changes f s m b h = go (isRecord k f) refl
-  where
-    go : (x : Bool) → isRecord k f ≡ x → Both Rel (x otherwise notRecord >> change (changeOf k f) s) (x otherwise notRecord >> change′ (changeOf k f) m)
-    go true e = changes (changeOf k f) s m (good-change k f b e) h
-    go false e = refl

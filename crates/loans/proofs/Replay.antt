@@ -83,7 +83,7 @@ module _ {S : Type 0} (apply : Field → S → Answer S) where
 
   -- ---- append, then replay
 
-  replay-more : (es fs : List Record) (tear : Option ℕ) (s : S)
+  pub replay-more : (es fs : List Record) (tear : Option ℕ) (s : S)
       → replayAll apply (es ++ fs) tear s ≡ onFrom (replayAll apply es none s .state) (replayAll apply es none s .end) (λ s′. replayAll apply fs tear s′)
   unfolding replayAll
   replay-more [] fs tear s = refl

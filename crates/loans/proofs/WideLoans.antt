@@ -15,7 +15,7 @@ use Rattle.loans.specs.Good.{IsCode, GoodLoan}
 use Rattle.loans.specs.WideLoans.{WideLoans}
 use Rattle.loans.proofs.Loan.{is-code}
 use Rattle.loans.proofs.Place.{place-is, place-of}
-use Rattle.loans.proofs.Records.{record-is}
+use Rattle.loans.proofs.PendingLog.{numbered-is}
 
 wide-code : (da ins : List ℕ) → Sized 16 da → Sized 16 ins → IsCode (wideBytes da ins)
 unfolding oneCode
@@ -29,6 +29,6 @@ wide-loans da ins borrower a b h =
     record {
       place = place-is (some (loanOf (wideBytes da ins) borrower)) g;
       placeBack = place-of (some (loanOf (wideBytes da ins) borrower)) g;
-      issueRecord = record-is 1 (issueCode (wideBytes da ins) borrower) g;
-      returnRecord = record-is 1 (returnCode (wideBytes da ins)) c;
+      issueRecord = λ n p q. numbered-is (record { number = n; change = issueCode (wideBytes da ins) borrower }) (record { change = g; some = p; most = q });
+      returnRecord = λ n p q. numbered-is (record { number = n; change = returnCode (wideBytes da ins) }) (record { change = c; some = p; most = q });
     }

@@ -1,17 +1,19 @@
 -- The changes that calls and replays made, and the first number, which counts them.
 use Prim.Native.Nat.{ℕ, suc, _+_}
 use mathlib.Core.Path.{_≡_}
+use mathlib.Core.Bool.{cond}
 use mathlib.Core.List.{List, [], _∷_, _++_}
+use lib.Dec.{leb}
 use Rattle.iscc.specs.Answer.{Answer, accept, refuse, _otherwise_}
 use Rattle.iscc.specs.Refusals.{notRegister}
 use Rattle.loans.specs.Map.{Change, issueCode, returnCode}
 use Rattle.loans.specs.Register.{Register, changedArea, askedArea, callArea}
-use Rattle.loans.specs.Contents.{Contents}
+use Rattle.loans.specs.Numbered.{Contents}
 use Rattle.loans.specs.Moves.{numberAt}
 use Rattle.loans.specs.Fields.{Field}
 use Rattle.loans.specs.Log.{Record, recordsFrom}
 use Rattle.loans.specs.Replay.{replayed}
-use Rattle.loans.specs.Records.{changeOf}
+use Rattle.loans.specs.PendingLog.{numberIn, numberedOf}
 use Rattle.loans.specs.Operations.{Operation, live, replay, GoodOperations, Performed, perform, madeBy}
 
 abbrev pub issues : List Change → ℕ
@@ -62,6 +64,6 @@ module _ {S : Type 0} (r : Register S) (apply : Field → S → Answer S) (takes
   FirstNumber empty =
       (ws : List Operation) → GoodOperations ws → numberAt 0 (allDone r apply ws empty) + returns (allChanges ws empty) ≡ issues (allChanges ws empty)
 
--- an accepted record of this log stands for its change
+-- an accepted record of this log stands for its change, and one that is skipped for none
 abbrev pub takesRecord : Field → Contents → List Change
-takesRecord f ls = changeOf 1 f ∷ []
+takesRecord f s = cond (leb (numberIn f) (s .last)) [] (numberedOf f .change ∷ [])

@@ -9,7 +9,8 @@ use Rattle.iscc.specs.Answer.{accept}
 use Rattle.iscc.specs.Digits.{Below}
 use Rattle.iscc.specs.Exactly.{Exactly, once}
 use Rattle.loans.specs.Counts.{codeType, counts}
-use Rattle.loans.specs.Contents.{isRegister, contentsOf, loansOf, register, emptyRegister, countsAsked}
+use Rattle.loans.specs.Numbered.{loansOf}
+use Rattle.loans.specs.Contents.{isRegister, contentsOf, register, emptyRegister, countsAsked}
 use Rattle.loans.specs.Good.{IsCode}
 use Rattle.loans.specs.Moves.{numberAt}
 use Rattle.loans.specs.PendingLog.{applyRecord}

@@ -5,21 +5,22 @@ use mathlib.Core.Bool.{true, false}
 use mathlib.Core.Option.{none, some}
 use mathlib.Core.List.{List, [], _∷_, _++_}
 use lib.ListN.{take}
-use Rattle.iscc.specs.Refusals.{alreadyOut, notOut, notRecord}
+use Rattle.iscc.specs.Refusals.{alreadyOut, notOut, notRecord, numberGap, numbersSpent}
 use Rattle.iscc.specs.Answer.{accept, refuse}
 use Rattle.iscc.specs.Ascii.{ascii}
 use Rattle.iscc.specs.Doors.{codeBytes}
 use Rattle.loans.specs.Loan.{Loan, loanOf}
-use Rattle.loans.specs.Map.{issueCode, returnCode}
+use Rattle.loans.specs.Map.{Change, issueCode, returnCode}
 use Rattle.loans.specs.Place.{zeros, placeBytes, placesBytes, placeOf, isPlace}
 use Rattle.loans.specs.Order.{inOrder, placed}
 use Rattle.loans.specs.Halving.{searched}
 use Rattle.loans.specs.Counts.{codeType, inPairs, countsBytes}
-use Rattle.loans.specs.Contents.{applied}
+use Rattle.loans.specs.Numbered.{Contents, nothing}
+use Rattle.loans.specs.Contents.{changedLoans, applied}
 use Rattle.loans.specs.Moves.{oneMore, oneLess}
 use Rattle.loans.specs.Fields.{Field, fieldBytes}
 use Rattle.loans.specs.Log.{Record, Records, recordsFrom}
-use Rattle.loans.specs.Replay.{stopped, replayFrom}
+use Rattle.loans.specs.Replay.{ended, stopped, replayFrom}
 use Rattle.loans.specs.PendingLog.{recordOf, applyRecord}
 
 -- two META units of 32 bits
@@ -50,15 +51,22 @@ four = loanOf one 1 ∷ loanOf two 2 ∷ loanOf label 3 ∷ loanOf id 4 ∷ []
 abbrev pub bytesUpTo : ℕ → List Loan → List ℕ
 bytesUpTo n ls = placesBytes (placed n ls)
 
+abbrev pub numbered : ℕ → Change → Field
+numbered n ch = recordOf (record { number = n; change = ch })
+
 -- "The first label of Labels, issued to borrower 258 and then taken back"
 abbrev pub labelOut : Field
-labelOut = recordOf (issueCode label 258)
+labelOut = numbered 1 (issueCode label 258)
 
 abbrev pub labelBack : Field
-labelBack = recordOf (returnCode label)
+labelBack = numbered 2 (returnCode label)
 
 abbrev pub labelLog : List ℕ
-labelLog = (1 ∷ 0 ∷ 0x16 ∷ 0 ∷ 0 ∷ 1 ∷ 2 ∷ label) ++ (2 ∷ 0 ∷ 0x12 ∷ label)
+labelLog = (3 ∷ 0 ∷ 0x1A ∷ 0 ∷ 0 ∷ 0 ∷ 1 ∷ 0 ∷ 0 ∷ 1 ∷ 2 ∷ label) ++ (4 ∷ 0 ∷ 0x16 ∷ 0 ∷ 0 ∷ 0 ∷ 2 ∷ label)
+
+-- the label out to borrower 258, by so many changes
+abbrev pub labelOutAt : ℕ → Contents
+labelOutAt n = record { loans = loanOf label 258 ∷ []; last = n }
 
 -- records, each with its offset, and no tear; or a tear behind them
 abbrev pub recordAt : ℕ → Field → Record
@@ -87,12 +95,12 @@ pub record Examples : Type 0 where
   pub twice : inOrder (some (loanOf one 1) ∷ some (loanOf one 2) ∷ none ∷ []) ≡ false
   pub usedBehindFree : inOrder (some (loanOf one 1) ∷ none ∷ some (loanOf two 1) ∷ []) ≡ false
   -- an issue makes room at its place in the order, and a return closes its gap
-  pub putBetween : applied (issueCode label 9) (loanOf one 1 ∷ loanOf id 2 ∷ []) ≡ accept (loanOf one 1 ∷ loanOf label 9 ∷ loanOf id 2 ∷ [])
-  pub putFirst : applied (issueCode one 9) (loanOf two 1 ∷ []) ≡ accept (loanOf one 9 ∷ loanOf two 1 ∷ [])
-  pub putLast : applied (issueCode id 9) (loanOf one 1 ∷ []) ≡ accept (loanOf one 1 ∷ loanOf id 9 ∷ [])
-  pub taken : applied (returnCode one) (loanOf one 1 ∷ loanOf two 9 ∷ []) ≡ accept (loanOf two 9 ∷ [])
-  pub outAlready : applied (issueCode one 9) (loanOf one 1 ∷ []) ≡ refuse alreadyOut
-  pub notThere : applied (returnCode two) (loanOf one 1 ∷ []) ≡ refuse notOut
+  pub putBetween : changedLoans (issueCode label 9) (loanOf one 1 ∷ loanOf id 2 ∷ []) ≡ accept (loanOf one 1 ∷ loanOf label 9 ∷ loanOf id 2 ∷ [])
+  pub putFirst : changedLoans (issueCode one 9) (loanOf two 1 ∷ []) ≡ accept (loanOf one 9 ∷ loanOf two 1 ∷ [])
+  pub putLast : changedLoans (issueCode id 9) (loanOf one 1 ∷ []) ≡ accept (loanOf one 1 ∷ loanOf id 9 ∷ [])
+  pub taken : changedLoans (returnCode one) (loanOf one 1 ∷ loanOf two 9 ∷ []) ≡ accept (loanOf two 9 ∷ [])
+  pub outAlready : changedLoans (issueCode one 9) (loanOf one 1 ∷ []) ≡ refuse alreadyOut
+  pub notThere : changedLoans (returnCode two) (loanOf one 1 ∷ []) ≡ refuse notOut
   pub gapClosed : bytesUpTo 3 (loanOf two 9 ∷ []) ≡ placeBytes (some (loanOf two 9)) ++ zeros 96
   -- the middle of four places is place 2, of the two before it place 1, of the one behind it place 3
   pub foundFirst : searched one four ≡ record { looked = 2 ∷ 1 ∷ 0 ∷ []; found = true; place = 0 }
@@ -119,22 +127,42 @@ pub record Examples : Type 0 where
   -- a wide composite: typed, in its place, and issued by its record
   pub wideTyped : codeBytes (ascii "k4aaaaicamcakbqhbaequcymbuha-6earcijrifiwc4mbsgq3dqor4hy") ≡ accept wideLabel
   pub widePlace : isPlace (34 ∷ wideLabel ++ zeros 9 ++ (0 ∷ 0 ∷ 1 ∷ 2 ∷ [])) ≡ true
-  pub wideIssued : applyRecord (record { tag = 1; body = 0 ∷ 0 ∷ 1 ∷ 2 ∷ wideLabel }) [] ≡ accept (loanOf wideLabel 258 ∷ [])
+  pub wideIssued : applyRecord (record { tag = 3; body = 0 ∷ 0 ∷ 0 ∷ 1 ∷ 0 ∷ 0 ∷ 1 ∷ 2 ∷ wideLabel }) nothing ≡ accept (record { loans = loanOf wideLabel 258 ∷ []; last = 1 })
   -- the log of the label, and its cuts: before it, one byte before the first record's end, there, one byte later, and all of it
   pub labelWritten : fieldBytes labelOut ++ fieldBytes labelBack ≡ labelLog
   pub cutAt0 : recordsFrom 0 (take 0 labelLog) ≡ untorn []
-  pub cutAt24 : recordsFrom 0 (take 24 labelLog) ≡ tornAt 0 []
-  pub cutAt25 : recordsFrom 0 (take 25 labelLog) ≡ untorn (recordAt 0 labelOut ∷ [])
-  pub cutAt26 : recordsFrom 0 (take 26 labelLog) ≡ tornAt 25 (recordAt 0 labelOut ∷ [])
-  pub cutAt46 : recordsFrom 0 (take 46 labelLog) ≡ untorn (recordAt 0 labelOut ∷ recordAt 25 labelBack ∷ [])
+  pub cutAt28 : recordsFrom 0 (take 28 labelLog) ≡ tornAt 0 []
+  pub cutAt29 : recordsFrom 0 (take 29 labelLog) ≡ untorn (recordAt 0 labelOut ∷ [])
+  pub cutAt30 : recordsFrom 0 (take 30 labelLog) ≡ tornAt 29 (recordAt 0 labelOut ∷ [])
+  pub cutAt54 : recordsFrom 0 (take 54 labelLog) ≡ untorn (recordAt 0 labelOut ∷ recordAt 29 labelBack ∷ [])
   -- "One byte or two are a tear too, and so is a record whose length, damaged, reaches past the end of the log."
-  pub twoBytes : recordsFrom 0 (2 ∷ 0 ∷ []) ≡ tornAt 0 []
-  pub lengthDamaged : recordsFrom 0 (take 25 labelLog ++ 2 ∷ 0 ∷ 0x13 ∷ label) ≡ tornAt 25 (recordAt 0 labelOut ∷ [])
+  pub twoBytes : recordsFrom 0 (4 ∷ 0 ∷ []) ≡ tornAt 0 []
+  pub lengthDamaged : recordsFrom 0 (take 29 labelLog ++ 4 ∷ 0 ∷ 0x17 ∷ 0 ∷ 0 ∷ 0 ∷ 2 ∷ label) ≡ tornAt 29 (recordAt 0 labelOut ∷ [])
   -- "Zeros behind it would be read as a record of tag 0 and length 0, which is 24."
   pub zerosWhole : recordsFrom 0 (zeros 3) ≡ untorn (recordAt 0 (record { tag = 0; body = [] }) ∷ [])
-  pub zerosNoRecord : applyRecord (record { tag = 0; body = [] }) [] ≡ refuse notRecord
-  pub otherTag : applyRecord (record { tag = 3; body = label }) [] ≡ refuse notRecord
-  pub issueShort : applyRecord (record { tag = 1; body = 0 ∷ 0 ∷ 1 ∷ [] }) [] ≡ refuse notRecord
-  -- one code issued twice: the first stays applied
-  pub issuedTwice : replayFrom applyRecord 0 (fieldBytes labelOut ++ fieldBytes (recordOf (issueCode label 1)) ++ fieldBytes labelBack) []
-      ≡ record { state = loanOf label 258 ∷ []; end = stopped alreadyOut 25 }
+  pub zerosNoRecord : applyRecord (record { tag = 0; body = [] }) nothing ≡ refuse notRecord
+  pub otherTag : applyRecord (record { tag = 5; body = 0 ∷ 0 ∷ 0 ∷ 1 ∷ label }) nothing ≡ refuse notRecord
+  pub issueShort : applyRecord (record { tag = 3; body = 0 ∷ 0 ∷ 0 ∷ 1 ∷ 0 ∷ 0 ∷ 1 ∷ [] }) nothing ≡ refuse notRecord
+  -- "a whole record of an older log is 24", whatever its code
+  pub oldIssue : applyRecord (record { tag = 1; body = 0 ∷ 0 ∷ 1 ∷ 2 ∷ label }) nothing ≡ refuse notRecord
+  pub oldReturn : applyRecord (record { tag = 2; body = label }) nothing ≡ refuse notRecord
+  -- one code issued twice: the first stays applied, and the last number is its own
+  pub issuedTwice : replayFrom applyRecord 0 (fieldBytes labelOut ++ fieldBytes (numbered 2 (issueCode label 1)) ++ fieldBytes (numbered 3 (returnCode label))) nothing
+      ≡ record { state = labelOutAt 1; end = stopped alreadyOut 29 }
+  -- a live change takes the next number, up to the last; with no number left it is 26, where the code is out too
+  pub takesNext : applied (issueCode label 258) (record { loans = []; last = 6 }) ≡ accept (labelOutAt 7)
+  pub takesLast : applied (issueCode label 258) (record { loans = []; last = 4294967294 }) ≡ accept (labelOutAt 4294967295)
+  pub spent : applied (issueCode label 258) (labelOutAt 4294967295) ≡ refuse numbersSpent
+  pub refusedTakesNone : applied (issueCode label 9) (labelOutAt 1) ≡ refuse alreadyOut
+  -- 24, then the skip, then 25, then 20 to 22
+  pub numberZero : applyRecord (numbered 0 (returnCode label)) (labelOutAt 1) ≡ refuse notRecord
+  pub skipped : applyRecord labelOut (labelOutAt 1) ≡ accept (labelOutAt 1)
+  pub skippedOther : applyRecord (numbered 3 (returnCode one)) (labelOutAt 7) ≡ accept (labelOutAt 7)
+  pub damagedNotSkipped : applyRecord (record { tag = 4; body = 0 ∷ 0 ∷ 0 ∷ 1 ∷ 1 ∷ [] }) (labelOutAt 7) ≡ refuse notRecord
+  pub gap : applyRecord (numbered 3 (returnCode label)) (labelOutAt 1) ≡ refuse numberGap
+  pub gapFirst : applyRecord (numbered 3 (returnCode one)) (labelOutAt 1) ≡ refuse numberGap
+  pub nextNotOut : applyRecord (numbered 2 (returnCode one)) (labelOutAt 1) ≡ refuse notOut
+  pub nextTaken : applyRecord labelBack (labelOutAt 1) ≡ accept (record { loans = []; last = 2 })
+  -- the log of the label a second time
+  pub twiceFirst : replayFrom applyRecord 0 labelLog nothing ≡ record { state = record { loans = []; last = 2 }; end = ended }
+  pub twiceSecond : replayFrom applyRecord 0 labelLog (record { loans = []; last = 2 }) ≡ record { state = record { loans = []; last = 2 }; end = ended }

@@ -1,5 +1,5 @@
--- What registers hold: at most 256 loans, each of a permitted code to a 32-bit borrower, in rising order of their codes. The promises
--- are stated over these.
+-- What registers hold: at most 256 loans, each of a permitted code to a 32-bit borrower, in rising order of their codes, and a 32-bit
+-- number. The promises are stated over these.
 use Prim.Native.Nat.{ℕ, _≤_, _<_}
 use mathlib.Core.Path.{_≡_}
 use mathlib.Core.Bool.{true}
@@ -12,7 +12,7 @@ use Rattle.loans.specs.Map.{Change, issueCode, returnCode}
 use Rattle.loans.specs.Calls.{Call, issue, takeBack, ask}
 use Rattle.octets.specs.Order.{before}
 use Rattle.loans.specs.Register.{Register}
-use Rattle.loans.specs.Contents.{Contents, loansOf}
+use Rattle.loans.specs.Numbered.{Contents}
 
 -- a code as it stands in a register: the bytes of one permitted unit or composite
 pub record IsCode (c : List ℕ) : Type 0 where
@@ -51,10 +51,14 @@ abbrev pub Rising : List Loan → Type 0
 Rising [] = Unit {0}
 Rising (l ∷ ls) = AllBehind (l .code) ls × Rising ls
 
-pub record GoodContents (ls : Contents) : Type 0 where
-  pub count : length (loansOf ls) ≤ 256
-  pub loans : GoodLoans (loansOf ls)
-  pub order : Rising (loansOf ls)
+pub record GoodList (ls : List Loan) : Type 0 where
+  pub count : length ls ≤ 256
+  pub loans : GoodLoans ls
+  pub order : Rising ls
+
+pub record GoodContents (s : Contents) : Type 0 where
+  pub list : GoodList (s .loans)
+  pub last : s .last < 4294967296
 
 abbrev pub GoodChange : Change → Type 0
 GoodChange (issueCode c b) = GoodLoan (loanOf c b)

@@ -6,6 +6,7 @@ pub mod Place
 pub mod Order
 pub mod Halving
 pub mod Counts
+pub mod Numbered
 pub mod Register
 pub mod Contents
 pub mod Good
@@ -23,6 +24,7 @@ pub mod PendingLog
 pub mod LogOrder
 pub mod Operations
 pub mod LogPromises
+pub mod NumberPromises
 pub mod CodesOut
 pub mod CountPromises
 pub mod WideLoans

@@ -1,12 +1,12 @@
 -- The tests of the log's writer, and of replay at each record, in their order.
 use Prim.Native.Nat.{ℕ, zero, suc, _+_, _<_}
 use mathlib.Core.Path.{_≡_}
-use mathlib.Core.Bool.{Bool, true, not}
+use mathlib.Core.Bool.{Bool, true, not, _&&_, _||_}
 use mathlib.Core.Option.{none}
 use mathlib.Core.List.{List, [], _∷_}
 use lib.ListN.{length, take}
-use lib.Dec.{leb, ltb}
-use Rattle.iscc.specs.Refusals.{Refusal, areaTooShort, alreadyOut, allOut, notOut, notRecord}
+use lib.Dec.{eqb, leb, ltb}
+use Rattle.iscc.specs.Refusals.{Refusal, areaTooShort, alreadyOut, allOut, notOut, notRecord, numberGap}
 use Rattle.iscc.specs.Answer.{Answer, accept, refuse}
 use Rattle.iscc.specs.Exactly.{Rule, HoldAt, BrokenAt, once, RuleOn, ruleOn, together, after}
 use Rattle.loans.specs.Loan.{Loan, oneCode, isOut}
@@ -14,14 +14,17 @@ use Rattle.loans.specs.Map.{Change, issueCode, returnCode}
 use Rattle.loans.specs.Fields.{Field, fieldBytes}
 use Rattle.loans.specs.Log.{Record}
 use Rattle.loans.specs.Replay.{End, ended, torn, stopped, replayAll}
-use Rattle.loans.specs.Records.{codeOf, isRecord, changeOf}
-use Rattle.loans.specs.PendingLog.{recordOf}
+use Rattle.loans.specs.Records.{codeOf}
+use Rattle.loans.specs.Numbered.{Contents}
+use Rattle.loans.specs.PendingLog.{NumberedChange, recordOf, numberIn, isNumbered, numberedOf}
 
 -- ---- the writer: 24, then 15
 
-unfoldable pub writeStages : Change → List ℕ → ℕ → List (List Rule)
-writeStages ch log position =
-    once notRecord (oneCode (codeOf ch)) ∷ once areaTooShort (leb (position + length (fieldBytes (recordOf ch))) (length log)) ∷ []
+unfoldable pub writeStages : NumberedChange → List ℕ → ℕ → List (List Rule)
+writeStages n log position =
+    once notRecord (oneCode (codeOf (n .change)) && not (eqb (n .number) 0))
+    ∷ once areaTooShort (leb (position + length (fieldBytes (recordOf n))) (length log))
+    ∷ []
 
 -- ---- replay: the tests at record j, all of one record before the next
 
@@ -43,13 +46,21 @@ abbrev pub isThere : Change → List Loan → Bool
 isThere (issueCode c b) ls = true
 isThere (returnCode c) ls = isOut c ls
 
--- "24, and 20 and 21 for an issue, 22 for a return"
-abbrev pub recordRules : {S : Type 0} → (S → List Loan) → List (RuleOn (Meeting S))
-recordRules loans =
-    ruleOn notRecord (λ m. isRecord 1 (m .field))
-    ∷ ruleOn alreadyOut (λ m. notYetOut (changeOf 1 (m .field)) (loans (m .state)))
-    ∷ ruleOn allOut (λ m. hasRoom (changeOf 1 (m .field)) (loans (m .state)))
-    ∷ ruleOn notOut (λ m. isThere (changeOf 1 (m .field)) (loans (m .state)))
+-- a record whose number is not above the last breaks none of the rules behind 24
+abbrev pub wasApplied : Meeting Contents → Bool
+wasApplied m = leb (numberIn (m .field)) (m .state .last)
+
+abbrev pub unless : (Change → List Loan → Bool) → Meeting Contents → Bool
+unless p m = wasApplied m || p (numberedOf (m .field) .change) (m .state .loans)
+
+-- "24, then 25, then 20 and 21 for an issue, 22 for a return"
+abbrev pub recordRules : List (RuleOn (Meeting Contents))
+recordRules =
+    ruleOn notRecord (λ m. isNumbered (m .field))
+    ∷ ruleOn numberGap (λ m. wasApplied m || eqb (numberIn (m .field)) (suc (m .state .last)))
+    ∷ ruleOn alreadyOut (unless notYetOut)
+    ∷ ruleOn allOut (unless hasRoom)
+    ∷ ruleOn notOut (unless isThere)
     ∷ []
 
 module _ {S : Type 0} (apply : Field → S → Answer S) where

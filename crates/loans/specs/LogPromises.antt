@@ -1,5 +1,5 @@
 -- What is promised of the pending issues log, a field for each sentence; the file of this name in proofs/ proves it.
-use Prim.Native.Nat.{ℕ, _≤_}
+use Prim.Native.Nat.{ℕ, _≤_, _<_}
 use mathlib.Core.Path.{_≡_}
 use mathlib.Core.Bool.{true}
 use mathlib.Core.Option.{none}
@@ -9,20 +9,20 @@ use Rattle.iscc.specs.Refusals.{Refusal, notRegister}
 use Rattle.iscc.specs.Answer.{Answer, accept, refuse}
 use Rattle.iscc.specs.Digits.{Below}
 use Rattle.iscc.specs.Exactly.{RuleOn, Exactly, once}
-use Rattle.loans.specs.Map.{Change, mapChanged, mapAsked}
+use Rattle.loans.specs.Map.{Change}
 use Rattle.loans.specs.Calls.{Call, stateAfter}
 use Rattle.loans.specs.Register.{Register, changedArea, askedArea}
-use Rattle.loans.specs.Contents.{register, loansOf, isRegister, emptyRegister}
+use Rattle.loans.specs.Numbered.{nothing, mapNumbered, mapNumberedAsked}
+use Rattle.loans.specs.Contents.{register, isRegister, emptyRegister}
 use Rattle.loans.specs.Good.{GoodCalls}
 use Rattle.loans.specs.Fields.{Field, fieldBytes}
 use Rattle.loans.specs.Log.{recordsFrom, laid}
 use Rattle.loans.specs.Replay.{ended, stopped, replayFrom, replayed}
 use Rattle.loans.specs.Writer.{Written, Appended}
 use Rattle.loans.specs.Tears.{TornOff, Tears, RestUnread, Settled}
-use Rattle.loans.specs.Records.{changeOf}
-use Rattle.loans.specs.PendingLog.{recordOf, writeRecord, writeAll, applyRecord, applyToMap, replayLog}
+use Rattle.loans.specs.PendingLog.{NumberedChange, recordOf, numberedOf, writeRecord, writeAll, applyRecord, applyToMap, replayLog}
 use Rattle.loans.specs.LogOrder.{writeStages, Meeting, recordRules, recordStage, stopOf, StopTold}
-use Rattle.loans.specs.Operations.{Operation, GoodOperations, allTold, changesMade, InBytes, AllInBytes}
+use Rattle.loans.specs.Operations.{Operation, GoodOperations, allTold, recordsMade, InBytes, AllInBytes}
 
 -- ---- of any register and any records
 
@@ -40,7 +40,8 @@ pub record Replays {S : Type 0} (r : Register S) (apply : Field → S → Answer
   pub restUnread : RestUnread apply
   pub settled : Settled apply
 
--- "Over any calls and replays, in any turn, from an empty register, written by them alone, all that is told is what a plain map tells."
+-- "Over any calls and replays, in any turn, from an empty register, written by them alone, all that is told is what a plain map tells.":
+-- the map has the number of its last change
 abbrev pub AsMapReplayed : {S M : Type 0} → Register S → (Field → S → Answer S) → List ℕ → (Change → M → Answer M) → (List ℕ → M → Answer ℕ) → (Field → M → Answer M) → M → Type 0
 AsMapReplayed r apply empty change question applyM emptyM =
     (ws : List Operation) → GoodOperations ws
@@ -49,26 +50,27 @@ AsMapReplayed r apply empty change question applyM emptyM =
 -- ---- of this one
 
 pub record PendingLog : Type 1 where
-  pub asMap : AsMapReplayed register applyRecord emptyRegister mapChanged mapAsked applyToMap []
+  pub asMap : AsMapReplayed register applyRecord emptyRegister mapNumbered mapNumberedAsked applyToMap nothing
   pub tears : Tears
-  pub replays : Replays register applyRecord (recordRules loansOf)
+  pub replays : Replays register applyRecord recordRules
   -- the writer: 24, then 15
-  pub writerTests : (ch : Change) (log : List ℕ) (position : ℕ) → Exactly (writeStages ch log position) (writeRecord ch log position)
+  pub writerTests : (n : NumberedChange) (log : List ℕ) (position : ℕ) → Exactly (writeStages n log position) (writeRecord n log position)
   -- "The record is written at the position, and the next position is behind it. No byte elsewhere is written."
-  pub appends : (ch : Change) (log : List ℕ) (position : ℕ) (w : Written) → writeRecord ch log position ≡ accept w
-      → Appended (fieldBytes (recordOf ch)) log position w
+  pub appends : (n : NumberedChange) (log : List ℕ) (position : ℕ) (w : Written) → writeRecord n log position ≡ accept w
+      → Appended (fieldBytes (recordOf n)) log position w
   -- "What the writer appends, replay reads back as those records, in their order.": behind any log that is not torn,
-  pub readsBack : (chs : List Change) (log : List ℕ) (position : ℕ) (w : Written) → AllInBytes chs → recordsFrom 0 (take position log) .tear ≡ none
-      → writeAll chs (record { log = log; position = position }) ≡ accept w
-      → recordsFrom 0 (take (w .position) (w .log)) ≡ record { whole = recordsFrom 0 (take position log) .whole ++ laid position (map recordOf chs); tear = none }
-  -- and each of them as its change
-  pub sameChange : (ch : Change) (log : List ℕ) (position : ℕ) (w : Written) → InBytes ch → writeRecord ch log position ≡ accept w → changeOf 1 (recordOf ch) ≡ ch
-  -- "A log that has a record for each change of a live run, in their order, makes from the register before that run the register after
-  -- it, byte for byte."
+  pub readsBack : (ns : List NumberedChange) (log : List ℕ) (position : ℕ) (w : Written) → AllInBytes ns → recordsFrom 0 (take position log) .tear ≡ none
+      → writeAll ns (record { log = log; position = position }) ≡ accept w
+      → recordsFrom 0 (take (w .position) (w .log)) ≡ record { whole = recordsFrom 0 (take position log) .whole ++ laid position (map recordOf ns); tear = none }
+  -- and each of them as its change and its number
+  pub sameChange : (n : NumberedChange) (log : List ℕ) (position : ℕ) (w : Written) → n .number < 4294967296 → InBytes (n .change)
+      → writeRecord n log position ≡ accept w → numberedOf (recordOf n) ≡ n
+  -- "A log that has a record for each change of a live run, in their order, with the numbers that they took, makes from the register
+  -- before that run the register after it, byte for byte."
   pub liveRun : (ks : List Call) (area log : List ℕ) (w : Written) → GoodCalls ks → Below 256 area → isRegister area ≡ true
-      → writeAll (changesMade (changedArea register) (askedArea register) ks area) (record { log = log; position = 0 }) ≡ accept w
+      → writeAll (recordsMade ks area) (record { log = log; position = 0 }) ≡ accept w
       → replayLog (take (w .position) (w .log)) area ≡ accept (record { state = stateAfter (changedArea register) (askedArea register) ks area; end = ended })
   -- the numbers that they give, none of which is 0
-  pub writeNumber : (ch : Change) (log : List ℕ) (position : ℕ) (q : Refusal) → writeRecord ch log position ≡ refuse q → (1 ≤ q .number) × (q .number ≤ 24)
+  pub writeNumber : (n : NumberedChange) (log : List ℕ) (position : ℕ) (q : Refusal) → writeRecord n log position ≡ refuse q → (1 ≤ q .number) × (q .number ≤ 24)
   pub stopNumber : (log area : List ℕ) (q : Refusal) (offset : ℕ) → replayFrom applyRecord 0 log (register .contents area) .end ≡ stopped q offset
-      → (20 ≤ q .number) × (q .number ≤ 24)
+      → (20 ≤ q .number) × (q .number ≤ 25)

@@ -1,6 +1,6 @@
--- Calls and replays in any turn, and what they tell; a live run, and the changes that it made.
+-- Calls and replays in any turn, and what they tell; a live run, and the changes that it made, each with the number that it took.
 use Prim.Native.Nat.{ℕ, _<_}
-use mathlib.Core.List.{List, [], _∷_, _++_}
+use mathlib.Core.List.{List, [], _∷_, _++_, map}
 use Rattle.iscc.specs.Answer.{Answer, accept, refuse}
 use Rattle.iscc.specs.Digits.{Below}
 use Rattle.iscc.specs.Doors.{codeBytes}
@@ -8,6 +8,9 @@ use Rattle.loans.specs.Map.{Change, issueCode, returnCode}
 use Rattle.loans.specs.Calls.{Call, issue, takeBack, ask, CallResult, call}
 use Rattle.loans.specs.Replay.{End, Replayed}
 use Rattle.loans.specs.Good.{GoodCall}
+use Rattle.loans.specs.Register.{callArea}
+use Rattle.loans.specs.Contents.{register, contentsOf}
+use Rattle.loans.specs.PendingLog.{NumberedChange}
 
 pub data Operation : Type 0 where
   live : Call → Operation
@@ -59,17 +62,21 @@ madeBy (issue t b) x = madeOf (λ c. issueCode c b) (codeBytes t) x
 madeBy (takeBack t) x = madeOf returnCode (codeBytes t) x
 madeBy (ask t) x = []
 
-module _ {S : Type 0} (change : Change → S → Answer S) (question : List ℕ → S → Answer ℕ) where
-  -- the changes that calls make, in their order
-  abbrev pub changesMade : List Call → S → List Change
-  changesMade [] s = []
-  changesMade (k ∷ ks) s = madeBy k (call change question k s .answer) ++ changesMade ks (call change question k s .state)
+abbrev pub withLast : List ℕ → Change → NumberedChange
+withLast area ch = record { number = contentsOf area .last; change = ch }
 
--- a change's code is a byte string, and its borrower a 32-bit number
+-- what calls on the register make, in their order: each change with the number that it took, the last one of the area after it
+abbrev pub recordsMade : List Call → List ℕ → List NumberedChange
+recordsMade [] area = []
+recordsMade (k ∷ ks) area =
+    let x : CallResult (List ℕ) = callArea register k area in
+    map (withLast (x .state)) (madeBy k (x .answer)) ++ recordsMade ks (x .state)
+
+-- a change's code is a byte string, and its borrower and its number are of 32 bits
 abbrev pub InBytes : Change → Type 0
 InBytes (issueCode c b) = Below 256 c × (b < 4294967296)
 InBytes (returnCode c) = Below 256 c
 
-abbrev pub AllInBytes : List Change → Type 0
+abbrev pub AllInBytes : List NumberedChange → Type 0
 AllInBytes [] = Unit {0}
-AllInBytes (ch ∷ chs) = InBytes ch × AllInBytes chs
+AllInBytes (n ∷ ns) = ((n .number < 4294967296) × InBytes (n .change)) × AllInBytes ns

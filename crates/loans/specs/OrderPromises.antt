@@ -1,6 +1,6 @@
 -- What is promised of the register's order and of a question's looks, a field for each sentence; the file of this name in proofs/
 -- proves it.
-use Prim.Native.Nat.{ℕ, _+_, _-_, _*_, _≤_, _<_}
+use Prim.Native.Nat.{ℕ, suc, _+_, _-_, _*_, _≤_, _<_}
 use mathlib.Core.Path.{_≡_}
 use mathlib.Core.Bool.{true, false}
 use mathlib.Core.Option.{some}
@@ -8,7 +8,7 @@ use mathlib.Core.List.{List, _++_}
 use lib.ListN.{length, getD, take, drop}
 use Rattle.iscc.specs.Refusals.{Refusal}
 use Rattle.iscc.specs.Answer.{accept, refuse}
-use Rattle.iscc.specs.Digits.{Below}
+use Rattle.iscc.specs.Digits.{digits, Below}
 use Rattle.iscc.specs.Doors.{codeBytes}
 use Rattle.octets.specs.Order.{before}
 use Rattle.loans.specs.Loan.{Loan, loanOf, isOut}
@@ -16,7 +16,8 @@ use Rattle.loans.specs.Place.{zeros, placeBytes}
 use Rattle.loans.specs.Order.{loansAt}
 use Rattle.loans.specs.Halving.{halving, searched, loanIn}
 use Rattle.loans.specs.Counts.{codeType}
-use Rattle.loans.specs.Contents.{countsPart, placesPart, isRegister, contentsOf, loansOf, issueText, returnText, looksText}
+use Rattle.loans.specs.Numbered.{loansOf}
+use Rattle.loans.specs.Contents.{countsPart, placesPart, isRegister, contentsOf, issueText, returnText, looksText}
 use Rattle.loans.specs.Good.{Distinct}
 use Rattle.loans.specs.Moves.{putIn, takenOut, oneMore, oneLess}
 
@@ -35,22 +36,25 @@ pub record InOrder (places : List ℕ) (used : ℕ) : Type 0 where
   pub held : (j : ℕ) → j < used → codeAt j places ≡ loanIn (loansAt places) j .code
 
 -- "An issue makes room at its place in the order.": before it stand the codes that come before its own, behind it the others, and
--- those move one place on; the loan is written there, one code more is counted, and no byte elsewhere is written
+-- those move one place on; the loan is written there, one code more is counted, the next number is taken, and no byte elsewhere is
+-- written
 pub record IssueMoves (c : List ℕ) (b : ℕ) (area area′ : List ℕ) (used : ℕ) : Type 0 where
   pub place : ℕ
   pub within : place ≤ used
   pub room : used < 256
   pub earlier : (j : ℕ) → j < place → before (codeAt j (placesPart area)) c ≡ true
   pub later : (j : ℕ) → place ≤ j → j < used → before c (codeAt j (placesPart area)) ≡ true
-  pub bytes : area′ ≡ oneMore (codeType c) (countsPart area) ++ putIn (48 * place) (48 * used) (placeBytes (some (loanOf c b))) (placesPart area)
+  pub bytes : area′
+      ≡ oneMore (codeType c) (countsPart area)
+      ++ (putIn (48 * place) (48 * used) (placeBytes (some (loanOf c b))) (placesPart area) ++ digits 8 4 (suc (contentsOf area .last)))
 
--- "A return closes its gap.": the places behind the code's move one back, the last of them is zeros, one code less is counted, and no
--- byte elsewhere is written
+-- "A return closes its gap.": the places behind the code's move one back, the last of them is zeros, one code less is counted, the next
+-- number is taken, and no byte elsewhere is written
 pub record ReturnMoves (c area area′ : List ℕ) (used : ℕ) : Type 0 where
   pub place : ℕ
   pub within : place < used
   pub code : codeAt place (placesPart area) ≡ c
-  pub bytes : area′ ≡ oneLess (codeType c) (countsPart area) ++ takenOut (48 * place) 48 (48 * used) (placesPart area)
+  pub bytes : area′ ≡ oneLess (codeType c) (countsPart area) ++ (takenOut (48 * place) 48 (48 * used) (placesPart area) ++ digits 8 4 (suc (contentsOf area .last)))
 
 -- "The answer reports how many places it looked at."
 pub record LooksCounted : Type 0 where

@@ -15,15 +15,18 @@ use Rattle.loans.specs.Loan.{Loan, oneCode}
 use Rattle.loans.specs.Map.{Change, issueCode, returnCode, mapChanged, mapAsked}
 use Rattle.loans.specs.Calls.{Call, answers, stateAfter, issued, returned, borrowerOf}
 use Rattle.loans.specs.Register.{Register, changedArea, askedArea, callArea}
-use Rattle.loans.specs.Contents.{register, emptyRegister, loansOf}
+use Rattle.loans.specs.Numbered.{Contents, loansOf, nothing, mapNumbered, mapNumberedAsked}
+use Rattle.loans.specs.Contents.{register, emptyRegister}
 use Rattle.loans.specs.Good.{Distinct, GoodContents, GoodCalls, Sound}
-use Rattle.loans.specs.RefusalOrder.{changeStages, changeCallStages, askStages}
+use Rattle.loans.specs.RefusalOrder.{liveStages, changeCallStages, askStages}
 
 -- ---- of any register
 
--- "Over any calls from an empty register, written by them alone, the answers are those of a plain map of at most 256 codes."
-abbrev pub AsPlainMap : {S : Type 0} → Register S → List ℕ → Type 0
-AsPlainMap r empty = (ks : List Call) → GoodCalls ks → answers (changedArea r) (askedArea r) ks empty ≡ answers mapChanged mapAsked ks []
+-- "Over any calls from an empty register, written by them alone, the answers are those of a plain map of at most 256 codes": of the map
+-- with the number of its last change, whose 26 is the register's; so, as long as there are no more calls than numbers, of the map alone
+pub record AsPlainMap {S : Type 0} (r : Register S) (empty : List ℕ) : Type 0 where
+  pub numbered : (ks : List Call) → GoodCalls ks → answers (changedArea r) (askedArea r) ks empty ≡ answers mapNumbered mapNumberedAsked ks nothing
+  pub plain : (ks : List Call) → GoodCalls ks → length ks ≤ 4294967295 → answers (changedArea r) (askedArea r) ks empty ≡ answers mapChanged mapAsked ks []
 
 -- "An area that only these calls have written since it was an empty register stays one: none of them answers 23."
 pub record StaysRegister {S : Type 0} (r : Register S) (empty : List ℕ) : Type 0 where
@@ -62,16 +65,16 @@ pub record CallTests {S : Type 0} (r : Register S) (own : Change → S → List 
   pub returns : (t area : List ℕ) → Exactly (changeCallStages r own returnCode t area) (returned (changedArea r) t area)
   pub questions : (t area : List ℕ) → Exactly (askStages r loans t area) (borrowerOf (askedArea r) t area)
 
--- a refusal bears a number from 1 to 23, and so none is taken for success
+-- a refusal bears a number from 1 to 26, a question's one to 23, and so none is taken for success
 pub record CallNumbers {S : Type 0} (r : Register S) : Type 0 where
-  pub issueNumber : (t : List ℕ) (b : ℕ) (area : List ℕ) (q : Refusal) → issued (changedArea r) t b area ≡ refuse q → (1 ≤ q .number) × (q .number ≤ 23)
-  pub returnNumber : (t area : List ℕ) (q : Refusal) → returned (changedArea r) t area ≡ refuse q → (1 ≤ q .number) × (q .number ≤ 23)
+  pub issueNumber : (t : List ℕ) (b : ℕ) (area : List ℕ) (q : Refusal) → issued (changedArea r) t b area ≡ refuse q → (1 ≤ q .number) × (q .number ≤ 26)
+  pub returnNumber : (t area : List ℕ) (q : Refusal) → returned (changedArea r) t area ≡ refuse q → (1 ≤ q .number) × (q .number ≤ 26)
   pub askNumber : (t area : List ℕ) (q : Refusal) → borrowerOf (askedArea r) t area ≡ refuse q → (1 ≤ q .number) × (q .number ≤ 23)
 
--- "Room that was given back is used again."
-abbrev pub RoomAgain : {S : Type 0} → Register S → Type 0
-RoomAgain r = (t u : List ℕ) (b : ℕ) (area area′ : List ℕ) → Below 256 area → returned (changedArea r) t area ≡ accept area′
-    → borrowerOf (askedArea r) u area′ ≡ refuse notOut → Accepted (issued (changedArea r) u b area′)
+-- "Room that was given back is used again.", where a number is left to take
+abbrev pub RoomAgain : {S : Type 0} → Register S → (S → ℕ) → Type 0
+RoomAgain r last = (t u : List ℕ) (b : ℕ) (area area′ : List ℕ) → Below 256 area → returned (changedArea r) t area ≡ accept area′
+    → borrowerOf (askedArea r) u area′ ≡ refuse notOut → last (r .contents area′) < 4294967295 → Accepted (issued (changedArea r) u b area′)
 
 -- ---- of this one
 
@@ -82,11 +85,11 @@ pub record LoansRegister : Type 1 where
   pub aMap : (ks : List Call) → GoodCalls ks → Distinct (stateAfter mapChanged mapAsked ks [])
   pub stays : StaysRegister register emptyRegister
   pub oneEntry : OneEntry register
-  pub roomAgain : RoomAgain register
+  pub roomAgain : RoomAgain register (λ (s : Contents). s .last)
   -- 23: what may stand in a place is exactly the code of some text,
   pub codes : (c : List ℕ) → Below 256 c → (oneCode c ≡ true) ↔ ((t : List ℕ) × (codeBytes t ≡ accept c))
   -- and the areas that get none are exactly the bytes of good contents
   pub areas : Sound register GoodContents
-  pub tests : CallTests register (λ ch ls. changeStages ch (loansOf ls)) loansOf
+  pub tests : CallTests register liveStages loansOf
   pub numbers : CallNumbers register
   pub kept : KeptWhereRefused register

@@ -4,8 +4,6 @@ use mathlib.Core.Bool.{Bool, cond, _&&_}
 use mathlib.Core.List.{List, _++_}
 use lib.ListN.{take, drop}
 use lib.Dec.{eqb}
-use Rattle.iscc.specs.Answer.{Answer, _>>_, _otherwise_}
-use Rattle.iscc.specs.Refusals.{notRecord}
 use Rattle.iscc.specs.Digits.{digits, value}
 use Rattle.loans.specs.Loan.{oneCode}
 use Rattle.loans.specs.Map.{Change, issueCode, returnCode}
@@ -34,9 +32,3 @@ isRecord k f = cond (eqb (f .tag) k) (oneCode (drop 4 (f .body))) (eqb (f .tag) 
 
 unfoldable pub changeOf : ℕ → Field → Change
 changeOf k f = cond (eqb (f .tag) k) (issueCode (drop 4 (f .body)) (value 8 (take 4 (f .body)))) (returnCode (f .body))
-
--- a record applied: 24, then what the change gives
-unfoldable pub applyChange : {S : Type 0} → ℕ → (Change → S → Answer S) → Field → S → Answer S
-applyChange k change f s = do
-  isRecord k f otherwise notRecord
-  change (changeOf k f) s

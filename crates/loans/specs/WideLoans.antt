@@ -9,15 +9,14 @@ use Rattle.iscc.specs.WideComposites.{wideBytes}
 use Rattle.loans.specs.Loan.{loanOf}
 use Rattle.loans.specs.Map.{issueCode, returnCode}
 use Rattle.loans.specs.Place.{placeBytes, placeOf, isPlace}
-use Rattle.loans.specs.Records.{isRecord}
-use Rattle.loans.specs.PendingLog.{recordOf}
+use Rattle.loans.specs.PendingLog.{NumberedChange, recordOf, isNumbered}
 
 -- a wide composite out to a borrower: its place and its records
 pub record WideLoan (code : List ℕ) (borrower : ℕ) : Type 0 where
   pub place : isPlace (placeBytes (some (loanOf code borrower))) ≡ true
   pub placeBack : placeOf (placeBytes (some (loanOf code borrower))) ≡ some (loanOf code borrower)
-  pub issueRecord : isRecord 1 (recordOf (issueCode code borrower)) ≡ true
-  pub returnRecord : isRecord 1 (recordOf (returnCode code)) ≡ true
+  pub issueRecord : (number : ℕ) → 0 < number → number < 4294967296 → isNumbered (recordOf (record { number = number; change = issueCode code borrower })) ≡ true
+  pub returnRecord : (number : ℕ) → 0 < number → number < 4294967296 → isNumbered (recordOf (record { number = number; change = returnCode code })) ≡ true
 
 abbrev pub WideLoans : Type 0
 WideLoans = (da ins : List ℕ) (borrower : ℕ) → Sized 16 da → Sized 16 ins → borrower < 4294967296 → WideLoan (wideBytes da ins) borrower

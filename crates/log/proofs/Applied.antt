@@ -1,37 +1,41 @@
--- A record applied by its branches: the tag, the code's test, and what the register made of the change.
-use Prim.Native.Nat.{ℕ, _-_, _%_, _^_, _≤_, _<_}
+-- A record by its tag and its body: the test 24, its number and its change; and the record applied in its turn.
+use Prim.Native.Nat.{ℕ, _+_, _-_, _%_, _^_, _≤_, _<_}
 use mathlib.Core.Path.{_≡_, refl, sym, _∙_, ap, ap₂, subst}
-use mathlib.Core.Bool.{Bool, true, false}
+use mathlib.Core.Bool.{Bool, true, false, not, _&&_}
 use mathlib.Core.List.{List, []}
 use native.Mathlib.Nat.{mod-eq-of-lt}
 use native.Mathlib.Omega.{arith}
-use lib.ListN.{length, getD, take, drop, drop-of-length-le, length-take}
-use borrow.Author.Tests.{ne-eqb}
-use Rattle.iscc.specs.Answer.{Answer, refuse, _>>_, _otherwise_}
-use Rattle.iscc.specs.Refusals.{notRecord}
+use lib.ListN.{length, take, drop, drop-of-length-le, length-take}
+use lib.Seq.{drop-drop}
+use lib.Dec.{eqb, leb}
+use borrow.Author.Tests.{leb-true, leb-false, eq-eqb, ne-eqb, eqb-true}
+use Rattle.iscc.specs.Refusals.{notRecord, numberGap}
+use Rattle.iscc.specs.Answer.{Answer}
 use Rattle.iscc.specs.Digits.{Below, value}
-use Rattle.iscc.proofs.Digits.{below-take}
+use Rattle.iscc.proofs.Booleans.{true-false, both-true}
+use Rattle.iscc.proofs.Digits.{below-take, below-drop}
 use Rattle.iscc.proofs.Parts.{rest-is}
 use Rattle.loans.specs.Loan.{oneCode}
-use Rattle.loans.specs.Map.{issueCode, returnCode}
+use Rattle.loans.specs.Map.{Change, issueCode, returnCode}
 use Rattle.loans.specs.Register.{changedArea}
-use Rattle.loans.specs.Contents.{register}
-use Rattle.loans.specs.Fields.{Field, firstSize, firstField}
-use Rattle.loans.specs.Records.{isRecord, changeOf, applyChange}
+use Rattle.loans.specs.Contents.{contentsOf, register}
+use Rattle.loans.specs.Fields.{Field}
+use Rattle.loans.specs.Records.{isRecord, changeOf}
+use Rattle.loans.specs.PendingLog.{numberIn, isNumbered, numberedOf, inTurn}
 use Rattle.loans.proofs.Loan.{is-code}
 use Rattle.loans.proofs.Records.{small-value}
-use Rattle.loans.proofs.Fields.{size-least}
+use Rattle.loans.proofs.PendingLog.{skip-in-turn, gap-in-turn, next-in-turn}
 use Rattle.register.specs.declared.answer.Changed.{Changed}
 use Rattle.register.specs.declared.answer.Changed.the-variants as changes
 use Rattle.register.proofs.Changes.{Told}
-use Rattle.log.specs.AppliedArea.{appliedArea, appliedIssue, appliedReturn}
+use Rattle.log.specs.AppliedArea.{appliedArea}
 
--- what was told of one answer is told of an equal one
-told-of : (x x′ : Answer (List ℕ)) (area : List ℕ) (y : Changed) (d : List ℕ) → x ≡ x′ → Told x′ area y d → Told x area y d
-told-of x x′ area y d e t = subst (λ (z : Answer (List ℕ)). Told z area y d) (sym e) t
+-- ---- numbers of four bytes, and codes behind them
 
-refused : (x : Answer (List ℕ)) (area : List ℕ) → x ≡ refuse notRecord → Told x area (changes.Refused notRecord) area
-refused x area e = told-of x (refuse notRecord) area (changes.Refused notRecord) area e (refl, refl)
+-- four bytes hold no more than the number read from them
+pub read-is : (bs : List ℕ) (k r : ℕ) → Below 256 bs → r ≡ value 8 (take 4 (drop k bs)) % 2 ^ 32 → r ≡ value 8 (take 4 (drop k bs))
+read-is bs k r b e =
+    e ∙ mod-eq-of-lt (small-value (take 4 (drop k bs)) (below-take 256 4 (drop k bs) (below-drop 256 k bs b)) (simp length-take (omega arith)))
 
 no-code : oneCode [] ≡ false
 no-code = go (oneCode []) refl
@@ -40,101 +44,112 @@ no-code = go (oneCode []) refl
     go true e = absurd (omega (arith, is-code [] tt e .some))
     go false e = refl
 
--- ---- the body of an issue
+module _ (body : List ℕ) (k : ℕ) where
+  none-there : length body < k → oneCode (drop k body) ≡ false
+  none-there h = ap oneCode (drop-of-length-le body {i = k} (omega (arith, h))) ∙ no-code
 
-code-is : (body : List ℕ) → take (length body - 4) (drop 4 body) ≡ drop 4 body
-code-is body = rest-is body 4
+  code-within : oneCode (drop k body) ≡ true → k ≤ length body
+  code-within e = go (leb k (length body)) refl
+    where
+      go : (b : Bool) → leb k (length body) ≡ b → k ≤ length body
+      go true w = leb-true k (length body) w
+      go false w = absurd (true-false e (none-there (leb-false k (length body) w)))
 
-module _ (body : List ℕ) (r : Bool) (e : r ≡ oneCode (take (length body - 4) (drop 4 body))) where
-  tested : oneCode (drop 4 body) ≡ r
-  tested = ap oneCode (sym (code-is body)) ∙ sym e
+  abbrev isBody : Bool
+  isBody = oneCode (drop k body) && not (eqb (value 8 (take 4 body)) 0)
 
-  pub code-tested : r ≡ true → oneCode (take (length body - 4) (drop 4 body)) ≡ true
-  code-tested t = sym e ∙ t
+  pub body-short : length body < k → false ≡ isBody
+  body-short h = rw (none-there h)
 
-module _ (body area : List ℕ) where
-  issue-is : appliedIssue body area ≡ (oneCode (drop 4 body) otherwise notRecord >> changedArea register (issueCode (drop 4 body) (value 8 (take 4 body))) area)
-  unfolding appliedArea applyChange isRecord changeOf
-  issue-is = refl
+  pub body-is : (n : ℕ) (r : Bool) → n ≡ value 8 (take 4 body) → r ≡ oneCode (take (length body - k) (drop k body)) && not (eqb n 0) → r ≡ isBody
+  body-is n r p e = e ∙ ap₂ (λ (c : List ℕ) (i : ℕ). oneCode c && not (eqb i 0)) (rest-is body k) p
 
-  issue-by : (r : Bool) → oneCode (drop 4 body) ≡ r
-      → appliedIssue body area ≡ (r otherwise notRecord >> changedArea register (issueCode (drop 4 body) (value 8 (take 4 body))) area)
-  issue-by r e = issue-is ∙ ap (λ (z : Bool). z otherwise notRecord >> changedArea register (issueCode (drop 4 body) (value 8 (take 4 body))) area) e
+-- ---- a field, by its tag
 
-  pub issue-short : length body < 4 → Told (appliedIssue body area) area (changes.Refused notRecord) area
-  issue-short h =
-      let e : drop 4 body ≡ [] = drop-of-length-le body {i = 4} (omega (arith, h)) in
-      refused (appliedIssue body area) area (issue-by false (ap oneCode e ∙ no-code))
+module _ (tag : ℕ) (body : List ℕ) where
+  abbrev field : Field
+  field = record { tag = tag; body = body }
 
-  module _ (r : Bool) (e : r ≡ oneCode (take (length body - 4) (drop 4 body))) where
-    pub issue-none : r ≡ false → Told (appliedIssue body area) area (changes.Refused notRecord) area
-    issue-none f = refused (appliedIssue body area) area (issue-by false (tested body r e ∙ f))
+  eight : drop 4 (drop 4 body) ≡ drop 8 body
+  eight = drop-drop 4 4 body
 
-    -- four bytes hold no more than the number read from them
-    pub issue-told : r ≡ true → Below 256 body → (b : ℕ) → b ≡ value 8 (take 4 body) % 2 ^ 32 → (y : Changed) (d : List ℕ)
-        → Told (changedArea register (issueCode (take (length body - 4) (drop 4 body)) b) area) area y d → Told (appliedIssue body area) area y d
-    issue-told t bytes b w y d k =
-        let v : b ≡ value 8 (take 4 body) = w ∙ mod-eq-of-lt (small-value (take 4 body) (below-take 256 4 body bytes) (simp length-take (omega arith))) in
-        let s : appliedIssue body area ≡ changedArea register (issueCode (take (length body - 4) (drop 4 body)) b) area =
-        issue-by true (tested body r e ∙ t) ∙ ap₂ (λ (c : List ℕ) (n : ℕ). changedArea register (issueCode c n) area) (sym (code-is body)) (sym v) in
-        told-of (appliedIssue body area) (changedArea register (issueCode (take (length body - 4) (drop 4 body)) b) area) area y d s k
+  pub issue-is : tag ≡ 3 → isBody body 8 ≡ isNumbered field
+  unfolding isNumbered isRecord
+  issue-is e = rw (eq-eqb tag 3 e, eight)
 
-  -- ---- the body of a return
+  return-is : (tag ≡ 3 → ⊥) → isNumbered field ≡ (eqb tag 4 && oneCode (drop 4 body)) && not (eqb (value 8 (take 4 body)) 0)
+  unfolding isNumbered isRecord
+  return-is n = rw (ne-eqb tag 3 n)
 
-  return-is : appliedReturn body area ≡ (oneCode body otherwise notRecord >> changedArea register (returnCode body) area)
-  unfolding appliedArea applyChange isRecord changeOf
-  return-is = refl
+  pub is-return : (tag ≡ 3 → ⊥) → tag ≡ 4 → isBody body 4 ≡ isNumbered field
+  is-return n e = sym (return-is n ∙ ap (λ (b : Bool). (b && oneCode (drop 4 body)) && not (eqb (value 8 (take 4 body)) 0)) (eq-eqb tag 4 e))
 
-  pub return-none : (r : Bool) → r ≡ oneCode body → r ≡ false → Told (appliedReturn body area) area (changes.Refused notRecord) area
-  return-none r e f =
-      refused (appliedReturn body area) area (return-is ∙ ap (λ (b : Bool). b otherwise notRecord >> changedArea register (returnCode body) area) (sym e ∙ f))
+  pub is-other : (tag ≡ 3 → ⊥) → (tag ≡ 4 → ⊥) → false ≡ isNumbered field
+  is-other n m = sym (return-is n ∙ ap (λ (b : Bool). (b && oneCode (drop 4 body)) && not (eqb (value 8 (take 4 body)) 0)) (ne-eqb tag 4 m))
 
-  pub return-told : (r : Bool) → r ≡ oneCode body → r ≡ true → (y : Changed) (d : List ℕ)
-      → Told (changedArea register (returnCode body) area) area y d → Told (appliedReturn body area) area y d
-  return-told r e t y d k =
-      told-of (appliedReturn body area) (changedArea register (returnCode body) area) area y d
-      (return-is ∙ ap (λ (b : Bool). b otherwise notRecord >> changedArea register (returnCode body) area) (sym e ∙ t)) k
+  module _ (v : isNumbered field ≡ true) where
+    code-at : tag ≡ 3 → oneCode (drop 8 body) ≡ true
+    code-at e = both-true (oneCode (drop 8 body)) _ (issue-is e ∙ v) .0
 
--- ---- a whole field, by its tag
+    pub issue-code : tag ≡ 3 → oneCode (take (length body - 8) (drop 8 body)) ≡ true
+    issue-code e = ap oneCode (rest-is body 8) ∙ code-at e
 
-other-tag : (tag : ℕ) (body area : List ℕ) → (tag ≡ 1 → ⊥) → (tag ≡ 2 → ⊥) → appliedArea (record { tag = tag; body = body }) area ≡ refuse notRecord
-unfolding appliedArea applyChange isRecord
-other-tag tag body area i j = rw (ne-eqb tag 1 i, ne-eqb tag 2 j)
+    pub issue-within : tag ≡ 3 → 8 ≤ length body
+    issue-within e = code-within body 8 (code-at e)
 
-pub has-head : (field : List ℕ) → firstSize field ≡ length field → 3 ≤ length field
-has-head field whole = omega (arith, whole, size-least field)
+    pub return-within : (tag ≡ 3 → ⊥) → 4 ≤ length body
+    return-within n =
+        let c = both-true (eqb tag 4 && oneCode (drop 4 body)) _ (sym (return-is n) ∙ v) .0 in
+        code-within body 4 (both-true (eqb tag 4) (oneCode (drop 4 body)) c .1)
 
-module _ (field area : List ℕ) (whole : firstSize field ≡ length field) where
-  abbrev rest : List ℕ
-  rest = take (length field - 3) (drop 3 field)
+    pub has-number : 4 ≤ length body
+    has-number = go (eqb tag 3) refl
+      where
+        go : (b : Bool) → eqb tag 3 ≡ b → 4 ≤ length body
+        go true w = omega (arith, issue-within (eqb-true tag 3 w))
+        go false w = return-within (λ e. true-false (eq-eqb tag 3 e) w)
 
-  field-is : firstField field ≡ record { tag = getD field 0 0; body = rest }
-  unfolding firstField firstSize
-  field-is =
-      let n : value 8 (take 2 (drop 1 field)) ≡ length field - 3 = omega (arith, whole) in
-      ap (λ (k : ℕ). record { tag = getD field 0 0; body = take k (drop 3 field) }) n
+  issue-change : tag ≡ 3 → numberedOf field .change ≡ issueCode (drop 8 body) (value 8 (take 4 (drop 4 body)))
+  unfolding numberedOf changeOf
+  issue-change e = rw (eq-eqb tag 3 e, eight)
 
-  module _ (tag : ℕ) (e : tag ≡ getD field 0 0) where
-    tagged : firstField field ≡ record { tag = tag; body = rest }
-    tagged = field-is ∙ ap (λ (k : ℕ). record { tag = k; body = rest }) (sym e)
+  return-change : (tag ≡ 3 → ⊥) → numberedOf field .change ≡ returnCode (drop 4 body)
+  unfolding numberedOf changeOf
+  return-change n = rw (ne-eqb tag 3 n)
 
-    pub tag-issue : tag ≡ 1 → (y : Changed) (d : List ℕ) → Told (appliedIssue rest area) area y d
-        → Told (appliedArea (firstField field) area) area y d
-    tag-issue i y d k =
-        let s : firstField field ≡ record { tag = 1; body = rest } =
-        tagged ∙ ap (λ (k : ℕ). record { tag = k; body = rest }) i in
-        told-of (appliedArea (firstField field) area) (appliedIssue rest area) area y d
-        (ap (λ (f : Field). appliedArea f area) s) k
+  module _ (area : List ℕ) (y : Changed) (d : List ℕ) where
+    abbrev Made : Change → Type 0
+    Made ch = Told (changedArea register ch area) area y d
 
-    pub tag-return : tag ≡ 2 → (y : Changed) (d : List ℕ) → Told (appliedReturn rest area) area y d
-        → Told (appliedArea (firstField field) area) area y d
-    tag-return i y d k =
-        let s : firstField field ≡ record { tag = 2; body = rest } =
-        tagged ∙ ap (λ (k : ℕ). record { tag = k; body = rest }) i in
-        told-of (appliedArea (firstField field) area) (appliedReturn rest area) area y d
-        (ap (λ (f : Field). appliedArea f area) s) k
+    pub issue-made : tag ≡ 3 → (b : ℕ) → b ≡ value 8 (take 4 (drop 4 body)) → Made (issueCode (take (length body - 8) (drop 8 body)) b) → Made (numberedOf field .change)
+    issue-made e b p t = subst Made (ap₂ issueCode (rest-is body 8) p ∙ sym (issue-change e)) t
 
-    pub tag-other : (tag ≡ 1 → ⊥) → (tag ≡ 2 → ⊥) → Told (appliedArea (firstField field) area) area (changes.Refused notRecord) area
-    tag-other i j =
-        refused (appliedArea (firstField field) area) area
-        (ap (λ (f : Field). appliedArea f area) tagged ∙ other-tag tag rest area i j)
+    pub return-made : (tag ≡ 3 → ⊥) → Made (returnCode (take (length body - 4) (drop 4 body))) → Made (numberedOf field .change)
+    return-made n t = subst Made (ap returnCode (rest-is body 4) ∙ sym (return-change n)) t
+
+-- ---- a record in its turn
+
+module _ (f : Field) (area : List ℕ) where
+  abbrev Applies : Changed → List ℕ → Type 0
+  Applies = Told (appliedArea f area) area
+
+  pub no-record : isNumbered f ≡ false → Applies (changes.Refused notRecord) area
+  unfolding appliedArea
+  no-record e = rw e (refl, refl)
+
+  module _ (e : isNumbered f ≡ true) (n last : ℕ) (p : n ≡ numberIn f) (q : last ≡ contentsOf area .last) where
+    abbrev made : Answer (List ℕ)
+    made = changedArea register (numberedOf f .change) area
+
+    turn : appliedArea f area ≡ inTurn n last area made
+    unfolding appliedArea
+    turn = rw (e, p, q)
+
+    pub skipped : n ≤ last → Applies (changes.Done last) area
+    skipped h = rw (turn, skip-in-turn n last area made h) (ap changes.Done q, refl)
+
+    pub gap : last < n → (n ≡ last + 1 → ⊥) → Applies (changes.Refused numberGap) area
+    gap h m = rw (turn, gap-in-turn n last area made (omega (arith, h, m))) (refl, refl)
+
+    pub next-made : n ≡ last + 1 → (y : Changed) (d : List ℕ) → Told (changedArea register (numberedOf f .change) area) area y d → Applies y d
+    next-made h y d t = rw (turn, next-in-turn n last area made (omega (arith, h))) t

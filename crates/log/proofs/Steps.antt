@@ -1,28 +1,30 @@
 -- Replay of a log by the loop's steps: what a record makes of an area is what it makes of the contents.
 use Prim.Native.Nat.{ℕ, suc, _+_, _-_, _≤_, _<_}
 use mathlib.Core.Path.{_≡_, refl, sym, _∙_, ap, subst}
-use mathlib.Core.Bool.{Bool, true, false}
+use mathlib.Core.Bool.{Bool, true, false, cond}
 use mathlib.Core.Logic.{_⊎_, inl, inr}
 use mathlib.Core.List.{List}
 use native.Mathlib.Omega.{arith}
 use lib.ListN.{length, getD, take, drop, length-drop, drop-of-length-le}
-use lib.Seq.{drop-cons, drop-drop, length-take-le}
+use lib.Seq.{drop-cons, drop-drop, getD-drop}
+use lib.Dec.{eqb, leb}
+use borrow.Author.Tests.{eqb-true}
 use Rattle.iscc.specs.Answer.{Answer, accept, refuse, _>>=_, _>>_, _otherwise_}
-use Rattle.iscc.specs.Refusals.{Refusal, notRegister, notRecord}
-use Rattle.iscc.specs.Digits.{Below}
-use Rattle.iscc.proofs.Answer.{passed, answered, bind-refused, accept-inj, never}
+use Rattle.iscc.specs.Refusals.{Refusal, notRegister, notRecord, numberGap}
+use Rattle.iscc.specs.Digits.{Below, value}
+use Rattle.iscc.proofs.Answer.{answered, bind-refused, accept-inj, never}
 use Rattle.iscc.proofs.Digits.{below-drop, below-all}
 use Rattle.loans.specs.Register.{changedArea}
-use Rattle.loans.specs.Contents.{Contents, contentsOf, isRegister, bytesOf, applied, register}
+use Rattle.loans.specs.Numbered.{Contents}
+use Rattle.loans.specs.Contents.{contentsOf, isRegister, bytesOf, changedLoans, applied, register}
 use Rattle.loans.specs.Good.{GoodContents}
 use Rattle.loans.specs.Fields.{Field, firstSize, firstIsWhole, firstField}
-use Rattle.loans.specs.Records.{isRecord, changeOf, applyChange}
 use Rattle.loans.specs.Replay.{End, ended, torn, stopped, endNumber, endOffset, goOn, replayFrom, inBytes, replayed, areaReplayed, replayNumber, replayOffset}
 use Rattle.loans.specs.Replay as replays
-use Rattle.loans.specs.PendingLog.{applyRecord, replayLog}
-use Rattle.loans.proofs.Contents.{register-known, register-sound, applied-good}
-use Rattle.loans.proofs.Fields.{size-least, whole-size, size-cut, field-cut, body-bytes}
-use Rattle.loans.proofs.Records.{good-change}
+use Rattle.loans.specs.PendingLog.{NumberedChange, numberIn, isNumbered, numberedOf, inTurn, numbering, applyWith, applyRecord, replayLog}
+use Rattle.loans.proofs.Contents.{register-known, register-sound}
+use Rattle.loans.proofs.Fields.{size-least, whole-size, body-bytes}
+use Rattle.loans.proofs.PendingLog.{good-numbered, next-is-applied, record-good}
 use Rattle.loans.proofs.Replay.{replay-end, replay-torn, replay-step}
 use Rattle.register.specs.declared.answer.Changed.{Changed}
 use Rattle.register.specs.declared.answer.Changed.the-variants as changes
@@ -40,34 +42,44 @@ pub record StepDone (f : Field) (area area′ : List ℕ) : Type 0 where
   pub contents : applyRecord f (contentsOf area) ≡ accept (contentsOf area′)
   pub valid : isRegister area′ ≡ true
 
-module _ (f : Field) (area : List ℕ) (v : isRegister area ≡ true) where
-  area-is : appliedArea f area ≡ (applyRecord f (contentsOf area) >>= λ ps. accept (bytesOf ps))
-  unfolding appliedArea applyChange changedArea
-  area-is = rw v (go (isRecord 1 f) (applied (changeOf 1 f) (contentsOf area)))
-    where
-      go : (b : Bool) (x : Answer Contents)
-          → (b otherwise notRecord >> (x >>= λ ps. accept (bytesOf ps))) ≡ ((b otherwise notRecord >> x) >>= λ ps. accept (bytesOf ps))
-      go true x = refl
-      go false x = refl
+module _ (f : Field) (area : List ℕ) (v : isRegister area ≡ true) (fb : Below 256 (f .body)) (ab : Below 256 area) where
+  abbrev s : Contents
+  s = contentsOf area
 
-  pub step-stop : (q : Refusal) → appliedArea f area ≡ refuse q → applyRecord f (contentsOf area) ≡ refuse q
-  step-stop q e = go (bind-refused (applyRecord f (contentsOf area)) (λ ps. accept (bytesOf ps)) (sym area-is ∙ e))
+  abbrev n : NumberedChange
+  n = numberedOf f
+
+  -- the bytes of what a record gives
+  abbrev asBytes : Answer Contents → Answer (List ℕ)
+  asBytes x = x >>= λ s′. accept (bytesOf s′)
+
+  area-is : appliedArea f area ≡ asBytes (applyRecord f s)
+  unfolding appliedArea applyWith inTurn changedArea numberedOf
+  area-is = rw v (go (isNumbered f) (leb (numberIn f) (s .last)) (eqb (numberIn f) (suc (s .last))) refl refl)
     where
-      go : (applyRecord f (contentsOf area) ≡ refuse q) ⊎ ((ps : Contents) × (applyRecord f (contentsOf area) ≡ accept ps) × (accept (bytesOf ps) ≡ refuse q))
-          → applyRecord f (contentsOf area) ≡ refuse q
+      go : (a b c : Bool) → isNumbered f ≡ a → eqb (numberIn f) (suc (s .last)) ≡ c
+          → (a otherwise notRecord >> cond b (accept area) (c otherwise numberGap >> asBytes (applied (n .change) s)))
+          ≡ asBytes (a otherwise notRecord >> cond b (accept s) (c otherwise numberGap >> numbering changedLoans n s))
+      go false b c p q = refl
+      go true true c p q = ap accept (sym (register-sound .again area ab v))
+      go true false false p q = refl
+      go true false true p q = ap asBytes (sym (next-is-applied n s (eqb-true (numberIn f) (suc (s .last)) q) (good-numbered f fb p .most)))
+
+  pub step-stop : (q : Refusal) → appliedArea f area ≡ refuse q → applyRecord f s ≡ refuse q
+  step-stop q e = go (bind-refused (applyRecord f s) (λ s′. accept (bytesOf s′)) (sym area-is ∙ e))
+    where
+      go : (applyRecord f s ≡ refuse q) ⊎ ((s′ : Contents) × (applyRecord f s ≡ accept s′) × (accept (bytesOf s′) ≡ refuse q)) → applyRecord f s ≡ refuse q
       go (inl w) = w
       go (inr w) = absurd (never (sym (w .2)))
 
-  pub step-done : (area′ : List ℕ) → Below 256 (f .body) → Below 256 area → appliedArea f area ≡ accept area′ → StepDone f area area′
-  unfolding applyChange
-  step-done area′ fb ab e =
-      let w = answered (applyRecord f (contentsOf area)) (λ ps. accept (bytesOf ps)) (sym area-is ∙ e) in
-      let p = passed (isRecord 1 f) notRecord (applied (changeOf 1 f) (contentsOf area)) (w .1) in
-      let g : GoodContents (w .0) = applied-good (changeOf 1 f) (contentsOf area) (w .0) (good-change 1 f fb (p .0)) (register-sound .good area ab v) (p .1) in
-      let s : bytesOf (w .0) ≡ area′ = accept-inj (w .2) in
+  pub step-done : (area′ : List ℕ) → appliedArea f area ≡ accept area′ → StepDone f area area′
+  step-done area′ e =
+      let w = answered (applyRecord f s) (λ s′. accept (bytesOf s′)) (sym area-is ∙ e) in
+      let g : GoodContents (w .0) = record-good f s (w .0) fb (register-sound .good area ab v) (w .1) in
+      let k : bytesOf (w .0) ≡ area′ = accept-inj (w .2) in
       record {
-        contents = w .1 ∙ ap accept (sym (register-sound .back (w .0) g) ∙ ap contentsOf s);
-        valid = subst (λ (a : List ℕ). isRegister a ≡ true) s (register-sound .valid (w .0) g);
+        contents = w .1 ∙ ap accept (sym (register-sound .back (w .0) g) ∙ ap contentsOf k);
+        valid = subst (λ (a : List ℕ). isRegister a ≡ true) k (register-sound .valid (w .0) g);
       }
 
 -- ---- the answer by the specification's number and offset
@@ -95,12 +107,12 @@ told-stop (accept a) area y d q t e = let k = sym (t .0) ∙ e in let z : _≡_ 
 told-stop (refuse p) area y d q t e = (ap (λ (c : Changed). refuse (refusalIn c)) (sym (t .0) ∙ e), t .1)
   where
     refusalIn : Changed → Refusal
-    refusalIn changes.Done = q
+    refusalIn (changes.Done k) = q
     refusalIn (changes.Refused r) = r
 
-told-done : (x : Answer (List ℕ)) (area : List ℕ) (y : Changed) (d : List ℕ) → Told x area y d → y ≡ changes.Done → x ≡ accept d
-told-done (accept a) area y d t e = ap accept (sym (t .1))
-told-done (refuse p) area y d t e = let k = sym (t .0) ∙ e in let z : _≡_ {A = ℕ} 0 1 = cc in absurd (omega arith)
+told-done : (x : Answer (List ℕ)) (area : List ℕ) (y : Changed) (d : List ℕ) (k : ℕ) → Told x area y d → y ≡ changes.Done k → x ≡ accept d
+told-done (accept a) area y d k t e = ap accept (sym (t .1))
+told-done (refuse p) area y d k t e = let k = sym (t .0) ∙ e in let z : _≡_ {A = ℕ} 0 1 = cc in absurd (omega arith)
 
 -- ---- the loop
 
@@ -153,21 +165,19 @@ module _ (log area₀ area : List ℕ) (offset : ℕ) (inv : Running log area₀
     size-is : size ≡ firstSize rest
     size-is = e ∙ is-whole rest (λ z. n (e ∙ z)) .1
 
-    pub size-fits : offset + size ≤ length log
-    size-fits = omega (arith, inv .within, size-is, whole-size rest whole, length-drop offset log)
+    pub size-fits : (3 ≤ size) × (offset + size ≤ length log)
+    size-fits = (omega (arith, size-is, size-least rest), omega (arith, inv .within, size-is, whole-size rest whole, length-drop offset log))
 
-    part-is : take (offset + size - offset) rest ≡ take (firstSize rest) rest
-    part-is = let k : offset + size - offset ≡ firstSize rest = omega (arith, size-is) in ap (λ (j : ℕ). take j rest) k
+    -- the field at the offset, as the code hands it over
+    abbrev field : Field
+    field = record { tag = getD log offset 0; body = take (offset + size - (offset + 3)) (drop (offset + 3) log) }
 
-    pub part-whole : firstSize (take (offset + size - offset) rest) ≡ length (take (offset + size - offset) rest)
-    part-whole =
-        let w = whole-size rest whole in
-        ap firstSize part-is
-        ∙ size-cut rest (firstSize rest) w (size-least rest)
-        ∙ sym (length-take-le (firstSize rest) rest w) ∙ ap length (sym part-is)
-
-    part-field : firstField (take (offset + size - offset) rest) ≡ firstField rest
-    part-field = let w = whole-size rest whole in ap firstField part-is ∙ field-cut rest (firstSize rest) w (omega arith)
+    field-is : field ≡ firstField rest
+    unfolding firstField firstSize
+    field-is =
+        let k : offset + size - (offset + 3) ≡ value 8 (take 2 (drop 1 rest)) = omega (arith, size-is) in
+        let i : offset + 0 ≡ offset = omega arith in
+        rw (k, getD-drop offset log 0 0, i, drop-drop 3 offset log)
 
     -- the replay from here on, by what its first record gives
     abbrev goesOn : Answer Contents → replays.Replayed Contents
@@ -176,27 +186,29 @@ module _ (log area₀ area : List ℕ) (offset : ℕ) (inv : Running log area₀
     first-applied : (x : Answer Contents) → applyRecord (firstField rest) (contentsOf area) ≡ x → replayRest rest ≡ goesOn x
     first-applied x e = replay-step applyRecord offset rest (contentsOf area) whole ∙ ap goesOn e
 
-    module _ (y : Changed) (d : List ℕ) (t : Told (appliedArea (firstField (take (offset + size - offset) rest)) area) area y d) where
+    module _ (y : Changed) (d : List ℕ) (t : Told (appliedArea field area) area y d) (lb : Below 256 log) where
       told : Told (appliedArea (firstField rest) area) area y d
-      told = subst (λ (f : Field). Told (appliedArea f area) area y d) part-field t
+      told = subst (λ (f : Field). Told (appliedArea f area) area y d) field-is t
+
+      bytes : Below 256 (firstField rest .body)
+      bytes = body-bytes rest (below-drop 256 offset log lb)
 
       pub stopped-there : (q : Refusal) → y ≡ changes.Refused q → Ends (ends.Stopped q offset) d
       stopped-there q k =
           let s = told-stop (appliedArea (firstField rest) area) area y d q told k in
-          let r : applyRecord (firstField rest) (contentsOf area) ≡ refuse q = step-stop (firstField rest) area (inv .valid) q (s .0) in
+          let r : applyRecord (firstField rest) (contentsOf area) ≡ refuse q = step-stop (firstField rest) area (inv .valid) bytes (inv .bytes) q (s .0) in
           subst (Ends (ends.Stopped q offset)) (sym (s .1)) (ends-as (stopped q offset) (first-applied (refuse q) r))
 
-      pub one-more : Below 256 log → ((k : ℕ) → getD d k 0 < 256) → y ≡ changes.Done → Running log area₀ d (offset + size)
-      one-more lb db k =
-          let s = told-done (appliedArea (firstField rest) area) area y d told k in
-          let g : StepDone (firstField rest) area d =
-          step-done (firstField rest) area (inv .valid) d (body-bytes rest (below-drop 256 offset log lb)) (inv .bytes) s in
+      pub one-more : ((k : ℕ) → getD d k 0 < 256) → (m : ℕ) → y ≡ changes.Done m → Running log area₀ d (offset + size)
+      one-more db m k =
+          let s = told-done (appliedArea (firstField rest) area) area y d m told k in
+          let g : StepDone (firstField rest) area d = step-done (firstField rest) area (inv .valid) bytes (inv .bytes) d s in
           let r =
           first-applied (accept (contentsOf d)) (g .contents)
           ∙ ap (λ (bs : List ℕ). replayFrom applyRecord (offset + firstSize rest) bs (contentsOf d)) (drop-drop (firstSize rest) offset log)
           ∙ ap (λ (j : ℕ). replayFrom applyRecord (offset + j) (drop (offset + j) log) (contentsOf d)) (sym size-is) in
           record {
-            within = size-fits;
+            within = size-fits .1;
             bytes = below-all 256 d (λ k _. db k);
             valid = g .valid;
             size = register-known d (g .valid) .size ∙ sym (register-known area (inv .valid) .size) ∙ inv .size;

@@ -33,6 +33,7 @@ use denote.Signature.Struct.{makes}
 use Rattle.iscc.specs.Answer.{Answer, accept, refuse, numberOf}
 use Rattle.loans.specs.Map.{Change}
 use Rattle.loans.specs.Writer.{Written, writtenAfter}
+use Rattle.loans.specs.PendingLog.{NumberedChange}
 use Rattle.log.specs.declared.append.Appended.{Appended}
 use Rattle.log.specs.declared.writer.LogWriter.{LogWriter}
 use Rattle.log.specs.Representation.{appendedAs}
@@ -53,12 +54,12 @@ as-position : (log : List ℕ) (position : ℕ) (a : Answer Written) → appende
 as-position log position (accept w) = refl
 as-position log position (refuse q) = refl
 
-pub writer-told : (w : LogWriter) (ch : Change) (r : Appended) (log : List ℕ)
-    → r ≡ appendedAs (w .position) (written w ch) → log ≡ writtenAfter (now (w .log)) (w .position) (written w ch) .log
-    → (r .number ≡ numberOf (written w ch)) × (_≡_ {A = LogWriter} (record { log = at-last (w .log) log; position = r .position }) (writerAfter w ch))
-writer-told w ch r log e p =
-    let number = ap (λ (i : Appended). i .number) e ∙ as-number (w .position) (written w ch) in
-    let position = ap (λ (i : Appended). i .position) e ∙ as-position (now (w .log)) (w .position) (written w ch) in
+pub writer-told : (w : LogWriter) (n : NumberedChange) (r : Appended) (log : List ℕ)
+    → r ≡ appendedAs (w .position) (written w n) → log ≡ writtenAfter (now (w .log)) (w .position) (written w n) .log
+    → (r .number ≡ numberOf (written w n)) × (_≡_ {A = LogWriter} (record { log = at-last (w .log) log; position = r .position }) (writerAfter w n))
+writer-told w n r log e p =
+    let number = ap (λ (i : Appended). i .number) e ∙ as-number (w .position) (written w n) in
+    let position = ap (λ (i : Appended). i .position) e ∙ as-position (now (w .log)) (w .position) (written w n) in
     (number, λ i. record { log = at-last (w .log) (p i); position = position i })
 
 -- the answer's numbers fit their types
@@ -75,7 +76,7 @@ module _ (r : Appended) (v : Val) (is : Is P.the-row r (v ∷ [])) where
 abbrev pub WriterS : Slot 3
 WriterS = plain (λ κs. T.the-row (namedLft 3 1 tt κs))
 
--- the writer's borrow, the log's borrow in it with the position, and the code
+-- the writer's borrow, the log's borrow in it with the position, the record's number and the code
 pub record Passed : Type 0 where
   pub κ : Lft
   pub q : Share
@@ -89,12 +90,13 @@ pub record Passed : Type 0 where
   pub γ′ : GName
   pub log : List ℕ
   pub position : ℕ
+  pub number : ℕ
   pub κ″ : Lft
   pub q″ : Share
   pub code : RefT (List ℕ)
 
-abbrev pub passedOf : Lfts 3 → Shares 3 → RefT LogWriter → RefT (List ℕ) → Passed
-passedOf κs qs w c =
+abbrev pub passedOf : Lfts 3 → Shares 3 → RefT LogWriter → ℕ → RefT (List ℕ) → Passed
+passedOf κs qs w n c =
     record {
       κ = κs .0;
       q = qs .0;
@@ -108,6 +110,7 @@ passedOf κs qs w c =
       γ′ = w .now .log .name;
       log = w .now .log .now;
       position = w .now .position;
+      number = n;
       κ″ = κs .1 .1 .0;
       q″ = qs .1 .1 .0;
       code = c;
@@ -192,9 +195,13 @@ module _ (p : Passed) where
   abbrev pub Called : {M : Type 1} {𝓤 : URA M} → ℕ → GName → Fml → List (Item 𝓤)
   Called ν δ rest = Tokens ν ∷ ‵ (Slice ν δ) ∷ ‵ rest ∷ []
 
-  -- what `append` tells of a change, by its answer and the log afterwards
-  abbrev pub Told : Change → Appended → List ℕ → Type 0
-  Told ch r l = (r ≡ appendedAs (p .position) (written before ch)) × (l ≡ writtenAfter (p .log) (p .position) (written before ch) .log)
+  -- a change with the number that was passed
+  abbrev pub numbered : Change → NumberedChange
+  numbered ch = record { number = p .number; change = ch }
+
+  -- what `append` tells of a record, by its answer and the log afterwards
+  abbrev pub Told : NumberedChange → Appended → List ℕ → Type 0
+  Told n r l = (r ≡ appendedAs (p .position) (written before n)) × (l ≡ writtenAfter (p .log) (p .position) (written before n) .log)
 
   -- ---- the steps
 

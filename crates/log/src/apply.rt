@@ -1,62 +1,51 @@
-// One whole record applied to a register: 24, then the register's own numbers.
+// One record of a log applied to a register: 24, then skipped or 25, then the register's own numbers.
 ghost use mathlib.Core.Path.{_≡_};
 ghost use mathlib.Core.Bool.{true};
-ghost use lib.ListN.{length};
 ghost use Rattle.loans.specs.Calls.{afterwards};
-ghost use Rattle.loans.specs.Contents.{isRegister};
-ghost use Rattle.loans.specs.Fields.{firstSize, firstField};
-ghost use Rattle.log.specs.AppliedArea.{appliedArea, appliedIssue, appliedReturn};
+ghost use Rattle.loans.specs.Register.{changedArea};
+ghost use Rattle.loans.specs.Contents.{isRegister, register};
+ghost use Rattle.loans.specs.PendingLog.{isNumbered, numberedOf};
+ghost use Rattle.log.specs.AppliedArea.{appliedArea};
 ghost use Rattle.register.specs.Representation.{changedAs};
+use crate::check;
 use iscc::refusal::Refusal;
 use loans::layout::BORROWER_LENGTH;
-use loans::layout::HEAD_LENGTH;
 use loans::layout::ISSUE_TAG;
-use loans::layout::RETURN_TAG;
-use places::code::is_code;
+use loans::layout::NUMBER_LENGTH;
 use register::answer::Changed;
 use register::change;
+use register::number;
 
-// The body of an issue: the borrower, then the code.
-fn apply_issue(body: &[u8], area: &mut [u8]) -> Changed
-    requires { ⌜ isRegister (now area) ≡ true ⌝ }
-    ensures answer { λ r. ⌜ r ≡ changedAs (appliedIssue (now (body .entry)) (now (area .entry))) ⌝ }
-    ensures area { λ _. ⌜ now (area .exit) ≡ afterwards (now (area .entry)) (appliedIssue (now (body .entry)) (now (area .entry))) ⌝ }
+// The change that a record holds, behind its number.
+fn make(tag: u8, body: &[u8], area: &mut [u8]) -> Changed
+    requires { ⌜ (isNumbered (record { tag = tag; body = now body }) ≡ true) × (isRegister (now area) ≡ true) ⌝ }
+    ensures answer { λ r. ⌜ r ≡ changedAs (changedArea register (numberedOf (record { tag = tag; body = now (body .entry) }) .change) (now (area .entry))) ⌝ }
+    ensures area { λ _. ⌜ now (area .exit) ≡ afterwards (now (area .entry)) (changedArea register (numberedOf (record { tag = tag; body = now (body .entry) }) .change) (now (area .entry))) ⌝ }
 {
-    if body.len() < BORROWER_LENGTH {
+    if tag == ISSUE_TAG {
+        let start = NUMBER_LENGTH + BORROWER_LENGTH;
+        let borrower = octets::number::read(&body[NUMBER_LENGTH..start]);
+        return change::issue(&body[start..], borrower, area);
+    }
+    change::take_back(&body[NUMBER_LENGTH..], area)
+}
+
+// A record in its turn. What is applied already is skipped, and the last number stays.
+pub(crate) fn apply(tag: u8, body: &[u8], area: &mut [u8]) -> Changed
+    requires { ⌜ isRegister (now area) ≡ true ⌝ }
+    ensures answer { λ r. ⌜ r ≡ changedAs (appliedArea (record { tag = tag; body = now (body .entry) }) (now (area .entry))) ⌝ }
+    ensures area { λ _. ⌜ now (area .exit) ≡ afterwards (now (area .entry)) (appliedArea (record { tag = tag; body = now (body .entry) }) (now (area .entry))) ⌝ }
+{
+    if !check::is_record(tag, body) {
         return Changed::Refused(Refusal::NOT_RECORD);
     }
-    let code = &body[BORROWER_LENGTH..];
-    if is_code(code) {
-        let borrower = octets::number::read(&body[0..BORROWER_LENGTH]);
-        return change::issue(code, borrower, area);
+    let record_number = check::number_in(body);
+    let last = number::last(area);
+    if record_number <= last {
+        return Changed::Done(last);
     }
-    Changed::Refused(Refusal::NOT_RECORD)
-}
-
-// The body of a return: the code.
-fn apply_return(body: &[u8], area: &mut [u8]) -> Changed
-    requires { ⌜ isRegister (now area) ≡ true ⌝ }
-    ensures answer { λ r. ⌜ r ≡ changedAs (appliedReturn (now (body .entry)) (now (area .entry))) ⌝ }
-    ensures area { λ _. ⌜ now (area .exit) ≡ afterwards (now (area .entry)) (appliedReturn (now (body .entry)) (now (area .entry))) ⌝ }
-{
-    if is_code(body) {
-        return change::take_back(body, area);
+    if record_number != last + 1 {
+        return Changed::Refused(Refusal::NUMBER_GAP);
     }
-    Changed::Refused(Refusal::NOT_RECORD)
-}
-
-// `field` is one whole field, no byte more.
-pub(crate) fn apply(field: &[u8], area: &mut [u8]) -> Changed
-    requires { ⌜ (firstSize (now field) ≡ length (now field)) × (isRegister (now area) ≡ true) ⌝ }
-    ensures answer { λ r. ⌜ r ≡ changedAs (appliedArea (firstField (now (field .entry))) (now (area .entry))) ⌝ }
-    ensures area { λ _. ⌜ now (area .exit) ≡ afterwards (now (area .entry)) (appliedArea (firstField (now (field .entry))) (now (area .entry))) ⌝ }
-{
-    let tag = field[0];
-    if tag == ISSUE_TAG {
-        return apply_issue(&field[HEAD_LENGTH..], area);
-    }
-    if tag == RETURN_TAG {
-        return apply_return(&field[HEAD_LENGTH..], area);
-    }
-    Changed::Refused(Refusal::NOT_RECORD)
+    make(tag, body, area)
 }

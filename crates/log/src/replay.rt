@@ -8,6 +8,7 @@ ghost use Rattle.log.specs.Representation.{replayedAs, replayedNumber, r
 use crate::apply;
 use crate::field;
 use iscc::refusal::Refusal;
+use loans::layout::HEAD_LENGTH;
 use register::answer::Changed;
 use register::check;
 
@@ -24,7 +25,7 @@ pub enum Replayed {
     Refused(Refusal),
 }
 
-// The records of the log applied to the area's register: 23; then at each record 24, 20 and 21, 22.
+// The records of the log applied to the area's register: 23; then at each record 24, 25, 20 and 21, 22.
 pub fn replay(log: &[u8], area: &mut [u8]) -> Replayed
     ensures answer { λ r. ⌜ r ≡ replayedAs (replayLog (now (log .entry)) (now (area .entry))) ⌝ }
     ensures number { λ r. ⌜ replayedNumber r ≡ replayNumber (replayLog (now (log .entry)) (now (area .entry))) ⌝ }
@@ -48,9 +49,10 @@ fn run(log: &[u8], area: &mut [u8]) -> Replayed
         if size == 0 {
             return Replayed::Torn(offset);
         }
-        let answer = apply::apply(&log[offset..offset + size], area);
+        let body = &log[offset + HEAD_LENGTH..offset + size];
+        let answer = apply::apply(log[offset], body, area);
         match answer {
-            Changed::Done => {
+            Changed::Done(_) => {
                 offset += size;
             }
             Changed::Refused(q) => {

@@ -22,21 +22,26 @@ pub fn new<'a>(log: &'a mut [u8], position: usize) -> LogWriter<'a>
 }
 
 // Appends an issue: 24, then 15.
-pub fn issue<'s, 'a, 'b>(w: &'s mut LogWriter<'a>, code: &'b [u8], borrower: u32) -> u32
-    ensures { λ r. ⌜ (r ≡ numberOf (written (now (w .entry)) (issueCode (now (code .entry)) borrower))) × (now (w .exit) ≡ writerAfter (now (w .entry)) (issueCode (now (code .entry)) borrower)) ⌝ }
+pub fn issue<'s, 'a, 'b>(
+    w: &'s mut LogWriter<'a>,
+    record_number: u32,
+    code: &'b [u8],
+    borrower: u32,
+) -> u32
+    ensures { λ r. ⌜ (r ≡ numberOf (written (now (w .entry)) (record { number = «record_number»; change = issueCode (now (code .entry)) borrower }))) × (now (w .exit) ≡ writerAfter (now (w .entry)) (record { number = «record_number»; change = issueCode (now (code .entry)) borrower })) ⌝ }
 {
     let position = w.position;
-    let issued = append::issue(&mut *w.log, position, code, borrower);
+    let issued = append::issue(&mut *w.log, position, record_number, code, borrower);
     w.position = issued.position;
     issued.number
 }
 
 // Appends a return: 24, then 15.
-pub fn take_back<'s, 'a, 'b>(w: &'s mut LogWriter<'a>, code: &'b [u8]) -> u32
-    ensures { λ r. ⌜ (r ≡ numberOf (written (now (w .entry)) (returnCode (now (code .entry))))) × (now (w .exit) ≡ writerAfter (now (w .entry)) (returnCode (now (code .entry)))) ⌝ }
+pub fn take_back<'s, 'a, 'b>(w: &'s mut LogWriter<'a>, record_number: u32, code: &'b [u8]) -> u32
+    ensures { λ r. ⌜ (r ≡ numberOf (written (now (w .entry)) (record { number = «record_number»; change = returnCode (now (code .entry)) }))) × (now (w .exit) ≡ writerAfter (now (w .entry)) (record { number = «record_number»; change = returnCode (now (code .entry)) })) ⌝ }
 {
     let position = w.position;
-    let returned = append::take_back(&mut *w.log, position, code);
+    let returned = append::take_back(&mut *w.log, position, record_number, code);
     w.position = returned.position;
     returned.number
 }

@@ -1,7 +1,7 @@
 -- The places counted in the order test: the counts of those so far, then of all.
 use Prim.Native.Nat.{ℕ, zero, suc, _+_, _-_, _*_, _≤_, _<_}
 use mathlib.Core.Path.{_≡_, refl, sym, _∙_, ap}
-use mathlib.Core.Bool.{Bool, true, false, _&&_, false≢true}
+use mathlib.Core.Bool.{Bool, true, false, _&&_}
 use mathlib.Core.Option.{Option, none, some}
 use mathlib.Core.List.{List, [], _∷_, _++_, append-nil}
 use native.Mathlib.Nat.{zero-add, suc-add}
@@ -10,19 +10,17 @@ use lib.ListN.{length, getD, take, drop, take-append-drop}
 use lib.Seq.{drop-drop}
 use lib.Dec.{ltb, leb}
 use borrow.Author.Tests.{ltb-true, ne-eqb}
-use Rattle.iscc.specs.Answer.{Answer, accept, refuse, isAccepted}
 use Rattle.iscc.specs.Digits.{value, allBelow}
-use Rattle.iscc.specs.Item.{Item, readOne}
 use Rattle.iscc.specs.Lists.{sameBytes}
 use Rattle.iscc.proofs.Booleans.{both-true}
-use Rattle.iscc.proofs.Permitted.{number-small}
 use Rattle.loans.specs.Loan.{Loan, loanOf, oneCode}
 use Rattle.loans.specs.Place.{placeOf, isPlace, placesOf, loansIn}
 use Rattle.loans.specs.Order.{areOrdered, loansAt}
-use Rattle.loans.specs.Counts.{typeIn, codeType, countsBytes}
+use Rattle.loans.specs.Counts.{codeType, countsBytes}
 use Rattle.loans.specs.Moves.{oneMore}
 use Rattle.loans.proofs.Places.{loans-most}
 use Rattle.loans.proofs.PlaceAt.{count-places}
+use Rattle.loans.proofs.CodeType.{type-small}
 use Rattle.loans.proofs.Counts.{length-counts, one-more, counts-snoc}
 use Rattle.places.specs.Used.{isUsed}
 use Rattle.places.proofs.OrderTests.{used-place, zeros-apart, free-place, OrderLeft, by-zeros}
@@ -63,14 +61,6 @@ loans-first bs n h e =
     ∙ ap (λ (ls : List Loan). loansIn (placesOf n bs) ++ ls) (no-loans (256 - n) (drop (48 * n) bs) e) ∙ append-nil (loansIn (placesOf n bs))
 
 -- ---- one used place counted
-
-codes-type : (c : List ℕ) → oneCode c ≡ true → codeType c ≤ 6
-unfolding oneCode codeType
-codes-type c e = go (readOne c) e
-  where
-    go : (r : Answer Item) → isAccepted r ≡ true → typeIn r ≤ 6
-    go (accept i) e = number-small (i .mainType)
-    go (refuse q) e = absurd (false≢true e)
 
 module _ (place : List ℕ) (u : isUsed place ≡ true) where
   abbrev code : List ℕ
@@ -115,7 +105,7 @@ module _ (bs cs ds : List ℕ) (i : ℕ) (h : i < 256) (e : cs ≡ countsBytes (
       let n : length ls ≤ 256 = omega (arith, loans-most (placesOf i bs), count-places i bs) in
       let g : loansIn (placesOf (i + 1) bs) ≡ ls ++ (l ∷ []) =
       ap loansIn (places-apart i 1 bs) ∙ loans-apart (placesOf i bs) (placesOf 1 (drop (48 * i) bs)) ∙ ap (λ (ks : List Loan). ls ++ ks) (one-loan (drop (48 * i) bs) u) in
-      q ∙ ap (oneMore (codeType (l .code))) e ∙ one-more l ls (codes-type (l .code) (used-code place u)) n ∙ sym (counts-snoc l ls) ∙ ap countsBytes (sym g)
+      q ∙ ap (oneMore (codeType (l .code))) e ∙ one-more l ls (type-small (l .code) (used-code place u)) n ∙ sym (counts-snoc l ls) ∙ ap countsBytes (sym g)
 
 -- ---- the loop, and the whole test
 

@@ -5,10 +5,9 @@ use mathlib.Core.List.{List, [], _∷_, _++_, append-assoc}
 use native.Mathlib.Nat.{div-one}
 use native.Mathlib.Numerals.{add-one}
 use native.Mathlib.Omega.{arith}
-use lib.ListN.{length, getD, set, take, drop, length-append, length-take, length-drop, length-set}
+use lib.ListN.{length, getD, set, take, drop, length-set}
 use lib.Seq.{drop-cons, sets-eq}
 use Rattle.iscc.specs.Digits.{digits, value}
-use Rattle.iscc.proofs.Digits.{length-digits}
 use Rattle.loans.specs.Moves.{pasted, numberAt, withNumber, oneMore, oneLess}
 
 -- ---- one number
@@ -38,10 +37,6 @@ module _ (bs : List ℕ) (i : ℕ) (l : length bs ≡ 16) (h : i < 8) where
       ap (λ (k : ℕ). set (set bs (2 * i) (n / 256 % 256)) k (n % 256)) (add-one (2 * i)) ∙ sets-eq (n / 256 % 256 ∷ n % 256 ∷ []) bs (2 * i) p
       ∙ append-assoc (take (2 * i) bs) (n / 256 % 256 ∷ n % 256 ∷ []) (drop (2 * i + 2) bs)
       ∙ ap (λ (ds : List ℕ). take (2 * i) bs ++ (ds ++ drop (2 * i + length ds) bs)) (two-digits n)
-
-  pub written-length : (n : ℕ) → length (withNumber i n bs) ≡ 16
-  unfolding withNumber pasted
-  written-length n = simp (length-append, length-take, length-drop, length-digits) (omega arith)
 
 -- ---- one code more, and one less
 

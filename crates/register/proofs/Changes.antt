@@ -1,4 +1,4 @@
--- A question, an issue and a return by their branches: where the search ended, and what was written.
+-- A question, an issue and a return by their branches: whether a number is left, where the search ended, and what was written.
 use Prim.Native.Nat.{ℕ, suc, _+_, _*_, _≤_, _<_}
 use mathlib.Core.Path.{_≡_, refl, sym, _∙_, ap, ap₂, subst}
 use mathlib.Core.Bool.{Bool, true, false, cond}
@@ -7,27 +7,29 @@ use mathlib.Core.List.{List, _++_}
 use native.Mathlib.Omega.{arith}
 use lib.ListN.{length, take, drop}
 use lib.Dec.{ltb}
-use borrow.Author.Tests.{lt-ltb, le-ltb}
-use Rattle.iscc.specs.Answer.{Answer}
-use Rattle.iscc.specs.Digits.{Below, value}
-use Rattle.iscc.specs.Refusals.{alreadyOut, allOut, notOut}
-use Rattle.loans.specs.Loan.{loanOf, oneCode, isOut, without}
-use Rattle.loans.specs.Map.{issueCode, returnCode, changeWith, holderOf}
+use borrow.Author.Tests.{lt-ltb, ltb-true, le-ltb}
+use Rattle.iscc.specs.Answer.{Answer, accept, refuse, _>>=_}
+use Rattle.iscc.specs.Digits.{Below, digits, value}
+use Rattle.iscc.specs.Refusals.{Refusal, alreadyOut, allOut, notOut, numbersSpent}
+use Rattle.loans.specs.Loan.{Loan, loanOf, oneCode, isOut, without}
+use Rattle.loans.specs.Map.{Change, issueCode, returnCode, changeWith, holderOf}
 use Rattle.loans.specs.Place.{placeBytes}
 use Rattle.loans.specs.Order.{areOrdered, put}
 use Rattle.loans.specs.Halving.{loanIn, searched, looks}
 use Rattle.loans.specs.Calls.{afterwards}
 use Rattle.loans.specs.Register.{changedArea, askedArea}
-use Rattle.loans.specs.Contents.{Contents, countsPart, placesPart, contentsOf, isRegister, bytesOf, register}
+use Rattle.loans.specs.Numbered.{Contents, takingNext}
+use Rattle.loans.specs.Contents.{countsPart, placesPart, numberPart, contentsOf, isRegister, bytesOf, changedLoans, applied, register}
 use Rattle.loans.specs.Counts.{codeType}
-use Rattle.loans.specs.Good.{IsCode}
+use Rattle.loans.specs.Good.{IsCode, GoodChange}
 use Rattle.loans.specs.Moves.{putIn, takenOut, numberAt, oneMore, oneLess}
 use Rattle.loans.proofs.Loan.{is-code}
 use Rattle.loans.proofs.Counts.{number-some}
 use Rattle.loans.proofs.CodeType.{code-type}
 use Rattle.loans.proofs.OrderedPlaces.{loans-few, borrower-is}
 use Rattle.loans.proofs.Halving.{Around, search-out}
-use Rattle.loans.proofs.Contents.{register-known, contents-rising}
+use Rattle.loans.proofs.Numbered.{number-left}
+use Rattle.loans.proofs.Contents.{register-known, register-sound, applied-good, contents-rising}
 use Rattle.loans.proofs.OrderPromises.{not-found, is-found, out-code, issue-moved, return-moved}
 use Rattle.register.specs.declared.answer.Changed.{Changed}
 use Rattle.register.specs.declared.answer.Changed.the-variants as changes
@@ -35,31 +37,78 @@ use Rattle.register.specs.declared.answer.Holder.{Holder}
 use Rattle.register.specs.declared.answer.Holder.the-variants as holders
 use Rattle.places.specs.declared.search.Found.{Found}
 use Rattle.places.specs.Representation.{foundAs}
+use Rattle.register.specs.Next.{nextNumber}
 use Rattle.register.specs.Representation.{holderAs, askedAs, changedAs}
+use Rattle.register.proofs.Areas.{number-behind}
 
 -- what an issue or a return tells of its definition's answer, and what it leaves of the area
 abbrev pub Told : Answer (List ℕ) → List ℕ → Changed → List ℕ → Type 0
 Told x area y d = (y ≡ changedAs x) × (d ≡ afterwards area x)
 
-pub size-known : (area : List ℕ) → isRegister area ≡ true → length area ≡ 12304
+pub size-known : (area : List ℕ) → isRegister area ≡ true → length area ≡ 12308
 size-known area v = register-known area v .size
 
 pub places-size : (area : List ℕ) → isRegister area ≡ true → length (take 12288 (drop 16 area)) ≡ 12288
 places-size area v = register-known area v .placesSize
 
-pub used-few : (area : List ℕ) (u : ℕ) → u ≡ length (contentsOf area) → u ≤ 256
+pub used-few : (area : List ℕ) (u : ℕ) → u ≡ length (contentsOf area .loans) → u ≤ 256
 used-few area u n = omega (arith, n, loans-few (placesPart area))
 
-pub room-left : (area : List ℕ) (u : ℕ) → u ≡ length (contentsOf area) → (u ≡ 256 → ⊥) → u < 256
+pub room-left : (area : List ℕ) (u : ℕ) → u ≡ length (contentsOf area .loans) → (u ≡ 256 → ⊥) → u < 256
 room-left area u n h = omega (arith, h, used-few area u n)
 
-pub search-known : (area : List ℕ) (u : ℕ) → isRegister area ≡ true → u ≡ length (contentsOf area)
-    → (length (placesPart area) ≡ 12288) × (areOrdered (placesPart area) ≡ true) × (u ≡ length (contentsOf area))
+pub search-known : (area : List ℕ) (u : ℕ) → isRegister area ≡ true → u ≡ length (contentsOf area .loans)
+    → (length (placesPart area) ≡ 12288) × (areOrdered (placesPart area) ≡ true) × (u ≡ length (contentsOf area .loans))
 search-known area u v n = let p = register-known area v in (p .placesSize, p .ordered, n)
 
-module _ (c area : List ℕ) (v : isRegister area ≡ true) (f : Found) (e : f ≡ foundAs (searched c (contentsOf area))) where
-  abbrev ls : Contents
-  ls = contentsOf area
+-- ---- a change where no number is left, and where one is
+
+module _ (area : List ℕ) (v : isRegister area ≡ true) (l : ℕ) (h : l ≡ nextNumber (contentsOf area .last)) where
+  next-is : (b : Bool) → ltb (contentsOf area .last) 4294967295 ≡ b → l ≡ cond b (suc (contentsOf area .last)) 0
+  unfolding nextNumber
+  next-is b e = h ∙ ap (λ (x : Bool). cond x (suc (contentsOf area .last)) 0) e
+
+  pub spent : (ch : Change) → l ≡ 0 → Told (changedArea register ch area) area (changes.Refused numbersSpent) area
+  unfolding changedArea takingNext
+  spent ch t = go (ltb (contentsOf area .last) 4294967295) refl
+    where
+      go : (b : Bool) → ltb (contentsOf area .last) 4294967295 ≡ b → Told (changedArea register ch area) area (changes.Refused numbersSpent) area
+      go true e = absurd (omega (arith, t, next-is true e))
+      go false e = rw (v, e) (refl, refl)
+
+  -- contents with the next number
+  abbrev next : List Loan → Contents
+  next ks = record { loans = ks; last = suc (contentsOf area .last) }
+
+  module _ (w : l ≡ 0 → ⊥) (k : Below 256 area) where
+    left : (contentsOf area .last < 4294967295) × (l ≡ suc (contentsOf area .last))
+    left = go (ltb (contentsOf area .last) 4294967295) refl
+      where
+        go : (b : Bool) → ltb (contentsOf area .last) 4294967295 ≡ b → (contentsOf area .last < 4294967295) × (l ≡ suc (contentsOf area .last))
+        go true e = (ltb-true (contentsOf area .last) 4294967295 e, next-is true e)
+        go false e = absurd (w (next-is false e))
+
+    taking : (ch : Change) → applied ch (contentsOf area) ≡ (changedLoans ch (contentsOf area .loans) >>= λ ks. accept (next ks))
+    taking ch = number-left changedLoans ch (contentsOf area) (left .0)
+
+    not-changed : (ch : Change) (q : Refusal) → changedLoans ch (contentsOf area .loans) ≡ refuse q
+        → Told (changedArea register ch area) area (changes.Refused q) area
+    unfolding changedArea
+    not-changed ch q e = rw (v, taking ch, e) (refl, refl)
+
+    -- the number that is told is the one that stands there now
+    changed-done : (ch : Change) (ks : List Loan) (d : List ℕ) → GoodChange ch → changedLoans ch (contentsOf area .loans) ≡ accept ks
+        → d ≡ bytesOf (next ks) → Told (changedArea register ch area) area (changes.Done l) d
+    unfolding changedArea
+    changed-done ch ks d g e q =
+        let t : applied ch (contentsOf area) ≡ accept (next ks) = taking ch ∙ ap (λ (x : Answer (List Loan)). x >>= λ js. accept (next js)) e in
+        let b : contentsOf (bytesOf (next ks)) ≡ next ks = register-sound .back (next ks) (applied-good ch (contentsOf area) (next ks) g (register-sound .good area k v) t) in
+        let n : l ≡ contentsOf (bytesOf (next ks)) .last = left .1 ∙ sym (ap (λ (s : Contents). s .last) b) in
+        rw (v, t) (ap (λ (j : ℕ). changes.Done j) n, q)
+
+module _ (c area : List ℕ) (v : isRegister area ≡ true) (f : Found) (e : f ≡ foundAs (searched c (contentsOf area .loans))) where
+  abbrev ls : List Loan
+  ls = contentsOf area .loans
 
   is-out : isOut c ls ≡ f .found
   is-out = sym (search-out c ls (contents-rising area v)) ∙ sym (ap (λ (x : Found). x .found) e)
@@ -78,8 +127,8 @@ module _ (c area : List ℕ) (v : isRegister area ≡ true) (f : Found) (e : f �
     found-few = omega (arith, found-code .0, loans-few (placesPart area))
 
     -- what a return of it asks for: a code that is out is counted
-    pub take-known : Below 256 area → (u : ℕ) → u ≡ length (contentsOf area)
-        → (length area ≡ 12304) × (oneCode c ≡ true) × (f .place < u) × (u ≤ 256) × (0 < numberAt 0 (countsPart area)) × (0 < numberAt (suc (codeType c)) (countsPart area))
+    pub take-known : Below 256 area → (u : ℕ) → u ≡ length (contentsOf area .loans)
+        → (length area ≡ 12308) × (oneCode c ≡ true) × (f .place < u) × (u ≤ 256) × (0 < numberAt 0 (countsPart area)) × (0 < numberAt (suc (codeType c)) (countsPart area))
     take-known k u n =
         let i : IsCode c = out-code area v k c (f .place) (found-code .0) (found-code .1) in
         let s = number-some c ls (is-out ∙ y) (code-type c i .0) (loans-few (placesPart area)) in
@@ -90,7 +139,7 @@ module _ (c area : List ℕ) (v : isRegister area ≡ true) (f : Found) (e : f �
     around : Around c ls (f .place) (f .place)
     around = subst (λ (k : ℕ). Around c ls k k) (sym place-is) (not-found area v c (is-out ∙ y))
 
-    pub room-within : (u : ℕ) → u ≡ length (contentsOf area) → f .place ≤ u
+    pub room-within : (u : ℕ) → u ≡ length (contentsOf area .loans) → f .place ≤ u
     room-within u n = omega (arith, n, around .within)
 
   -- ---- a question
@@ -113,50 +162,51 @@ module _ (c area : List ℕ) (v : isRegister area ≡ true) (f : Found) (e : f �
       let q : loanIn ls (f .place) .borrower ≡ b = borrower-is (placesPart area) (p .ordered) (p .placesSize) (f .place) (found-code y .0) ∙ sym w in
       asked-is (holders.Borrower b) (sym (ap holderAs (asked-by true y) ∙ ap (λ (x : ℕ). holders.Borrower x) q))
 
-  -- ---- a return
+  module _ (l : ℕ) (h : l ≡ nextNumber (contentsOf area .last)) (w : l ≡ 0 → ⊥) (k : Below 256 area) where
+    -- ---- a return
 
-  abbrev Returned : Changed → List ℕ → Type 0
-  Returned = Told (changedArea register (returnCode c) area) area
+    abbrev Returned : Changed → List ℕ → Type 0
+    Returned = Told (changedArea register (returnCode c) area) area
 
-  pub return-none : f .found ≡ false → Returned (changes.Refused notOut) area
-  unfolding changedArea changeWith
-  return-none y = let o : isOut c ls ≡ false = is-out ∙ y in rw (v, o) (refl, refl)
+    pub return-none : f .found ≡ false → Returned (changes.Refused notOut) area
+    unfolding changeWith
+    return-none y = not-changed area v l h w k (returnCode c) notOut (rw (is-out ∙ y))
 
-  pub return-done : f .found ≡ true → Below 256 area → (u : ℕ) → u ≡ length (contentsOf area) → (d : List ℕ)
-      → d ≡ oneLess (codeType c) (countsPart area) ++ takenOut (48 * f .place) 48 (48 * u) (placesPart area) → Returned changes.Done d
-  unfolding changedArea changeWith
-  return-done y k u n d w =
-      let o : isOut c ls ≡ true = is-out ∙ y in
-      let q : d ≡ bytesOf (without c ls) =
-      w ∙ ap (λ (j : ℕ). oneLess (codeType c) (countsPart area) ++ takenOut (48 * f .place) 48 (48 * j) (placesPart area)) n
-      ∙ sym (return-moved area v k c (f .place) (found-code y .0) (found-code y .1) o) in
-      rw (v, o) (refl, q)
+    pub return-done : f .found ≡ true → (u : ℕ) → u ≡ length (contentsOf area .loans) → (a d : List ℕ) → length a ≡ length area
+        → a ≡ oneLess (codeType c) (countsPart area) ++ (takenOut (48 * f .place) 48 (48 * u) (placesPart area) ++ numberPart area)
+        → d ≡ take 12304 a ++ digits 8 4 l → Returned (changes.Done l) d
+    unfolding changeWith
+    return-done y u n a d s p q =
+        let o : isOut c ls ≡ true = is-out ∙ y in
+        changed-done area v l h w k (returnCode c) (without c ls) d (out-code area v k c (f .place) (found-code y .0) (found-code y .1)) (rw o)
+        (number-behind area a (oneLess (codeType c) (countsPart area)) (takenOut (48 * f .place) 48 (48 * u) (placesPart area)) d l (size-known area v) s p q
+        ∙ ap₂ (λ (x j : ℕ). oneLess (codeType c) (countsPart area) ++ (takenOut (48 * f .place) 48 (48 * x) (placesPart area) ++ digits 8 4 j)) n (left area v l h w k .1)
+        ∙ sym (return-moved area v k c (f .place) (found-code y .0) (found-code y .1) o))
 
-  -- ---- an issue
+    -- ---- an issue
 
-  module _ (b : ℕ) where
-    abbrev Issued : Changed → List ℕ → Type 0
-    Issued = Told (changedArea register (issueCode c b) area) area
+    module _ (b : ℕ) where
+      abbrev Issued : Changed → List ℕ → Type 0
+      Issued = Told (changedArea register (issueCode c b) area) area
 
-    pub issue-out : f .found ≡ true → Issued (changes.Refused alreadyOut) area
-    unfolding changedArea changeWith
-    issue-out y = let o : isOut c ls ≡ true = is-out ∙ y in rw (v, o) (refl, refl)
+      pub issue-out : f .found ≡ true → Issued (changes.Refused alreadyOut) area
+      unfolding changeWith
+      issue-out y = not-changed area v l h w k (issueCode c b) alreadyOut (rw (is-out ∙ y))
 
-    module _ (y : f .found ≡ false) (u : ℕ) (n : u ≡ length (contentsOf area)) where
-      still-in : isOut c ls ≡ false
-      still-in = is-out ∙ y
+      module _ (y : f .found ≡ false) (u : ℕ) (n : u ≡ length (contentsOf area .loans)) where
+        pub issue-full : u ≡ 256 → Issued (changes.Refused allOut) area
+        unfolding changeWith
+        issue-full m = not-changed area v l h w k (issueCode c b) allOut (rw (is-out ∙ y, le-ltb (length ls) 256 (omega (arith, n, m))))
 
-      pub issue-full : u ≡ 256 → Issued (changes.Refused allOut) area
-      unfolding changedArea changeWith
-      issue-full h = let o : ltb (length ls) 256 ≡ false = le-ltb (length ls) 256 (omega (arith, n, h)) in rw (v, still-in, o) (refl, refl)
-
-      pub issue-done : (u ≡ 256 → ⊥) → Below 256 area → Below 256 c → oneCode c ≡ true → (d : List ℕ)
-          → d ≡ oneMore (codeType c) (countsPart area) ++ putIn (48 * f .place) (48 * u) (placeBytes (some (loanOf c b))) (placesPart area) → Issued changes.Done d
-      unfolding changedArea changeWith
-      issue-done h k cb one d w =
-          let l : length ls < 256 = omega (arith, n, h, loans-few (placesPart area)) in
-          let o : ltb (length ls) 256 ≡ true = lt-ltb (length ls) 256 l in
-          let q : d ≡ bytesOf (put (loanOf c b) ls) =
-          w ∙ ap (λ (j : ℕ). oneMore (codeType c) (countsPart area) ++ putIn (48 * f .place) (48 * j) (placeBytes (some (loanOf c b))) (placesPart area)) n
-          ∙ sym (issue-moved area v k c b (f .place) (is-code c cb one) (around y) l) in
-          rw (v, still-in, o) (refl, q)
+        pub issue-done : (u ≡ 256 → ⊥) → Below 256 c → b < 4294967296 → oneCode c ≡ true → (a d : List ℕ) → length a ≡ length area
+            → a ≡ oneMore (codeType c) (countsPart area) ++ (putIn (48 * f .place) (48 * u) (placeBytes (some (loanOf c b))) (placesPart area) ++ numberPart area)
+            → d ≡ take 12304 a ++ digits 8 4 l → Issued (changes.Done l) d
+        unfolding changeWith
+        issue-done m cb small one a d s p q =
+            let i : IsCode c = is-code c cb one in
+            let j : length ls < 256 = omega (arith, n, m, loans-few (placesPart area)) in
+            changed-done area v l h w k (issueCode c b) (put (loanOf c b) ls) d (record { code = i; borrower = small }) (rw (is-out ∙ y, lt-ltb (length ls) 256 j))
+            (number-behind area a (oneMore (codeType c) (countsPart area)) (putIn (48 * f .place) (48 * u) (placeBytes (some (loanOf c b))) (placesPart area)) d l
+            (size-known area v) s p q
+            ∙ ap₂ (λ (x o : ℕ). oneMore (codeType c) (countsPart area) ++ (putIn (48 * f .place) (48 * x) (placeBytes (some (loanOf c b))) (placesPart area) ++ digits 8 4 o)) n (left area v l h w k .1)
+            ∙ sym (issue-moved area v k c b (f .place) i (around y) j))

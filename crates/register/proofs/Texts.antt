@@ -18,14 +18,14 @@ use Rattle.loans.proofs.Loan.{code-in}
 use Rattle.loans.specs.Map.{Change, issueCode, returnCode}
 use Rattle.loans.specs.Calls.{issued, returned, borrowerOf, afterwards}
 use Rattle.loans.specs.Register.{changedArea, askedArea}
-use Rattle.loans.specs.Contents.{isRegister, contentsOf, register, reported, issueText, returnText, askText, looksText}
+use Rattle.loans.specs.Contents.{isRegister, contentsOf, register, reported, issueText, returnText, numberTaken, askText, looksText}
 use Rattle.loans.specs.Halving.{looks}
 use Rattle.loans.proofs.OrderPromises.{register-in-order}
 use Rattle.register.specs.declared.answer.Changed.{Changed}
 use Rattle.register.specs.declared.answer.Changed.the-variants as changes
 use Rattle.register.specs.declared.answer.Asked.{Asked}
 use Rattle.register.specs.declared.answer.Holder.the-variants as holders
-use Rattle.register.specs.Representation.{holderAs, askedAs, holderNumber, holderBorrower, borrowerIn, changedAs, changedNumber}
+use Rattle.register.specs.Representation.{holderAs, askedAs, holderNumber, holderBorrower, borrowerIn, changedAs, changedNumber, changedRecord}
 use Rattle.register.specs.Admitted.{admitted, admittedDetail}
 use Rattle.register.proofs.Changes.{Told}
 
@@ -40,14 +40,14 @@ told-refusal x area q e = same-told x (refuse q) area (changes.Refused q) area e
 
 -- what a call by text tells
 abbrev pub ToldBy : Answer (List ℕ) → List ℕ → Changed → List ℕ → Type 0
-ToldBy x area y d = (y ≡ changedAs x) × ((changedNumber y ≡ numberOf x) × (d ≡ afterwards area x))
+ToldBy x area y d = (y ≡ changedAs x) × ((changedNumber y ≡ numberOf x) × ((changedRecord y ≡ numberTaken x) × (d ≡ afterwards area x)))
 
-changed-number : (x : Answer (List ℕ)) → changedNumber (changedAs x) ≡ numberOf x
-changed-number (accept bs) = refl
-changed-number (refuse q) = refl
+changed-numbers : (x : Answer (List ℕ)) → (changedNumber (changedAs x) ≡ numberOf x) × (changedRecord (changedAs x) ≡ numberTaken x)
+changed-numbers (accept bs) = (refl, refl)
+changed-numbers (refuse q) = (refl, refl)
 
 by-text : (x : Answer (List ℕ)) (area : List ℕ) (y : Changed) (d : List ℕ) → Told x area y d → ToldBy x area y d
-by-text x area y d t = (t .0, (ap changedNumber (t .0) ∙ changed-number x, t .1))
+by-text x area y d t = let n = changed-numbers x in (t .0, (ap changedNumber (t .0) ∙ n .0, (ap changedRecord (t .0) ∙ n .1, t .1)))
 
 -- what a question by text tells
 abbrev pub AskTold : List ℕ → List ℕ → Asked → Type 0
@@ -113,7 +113,7 @@ asked-not : (c area : List ℕ) → isRegister area ≡ false → askedArea regi
 unfolding askedArea
 asked-not c area v = rw v
 
-looks-not : (c area : List ℕ) → isRegister area ≡ false → (isRegister area otherwise notRegister >> accept (looks c (contentsOf area))) ≡ refuse notRegister
+looks-not : (c area : List ℕ) → isRegister area ≡ false → (isRegister area otherwise notRegister >> accept (looks c (contentsOf area .loans))) ≡ refuse notRegister
 looks-not c area v = rw v
 
 -- ---- the calls
@@ -139,7 +139,7 @@ module _ (t area : List ℕ) (k : ℕ) (r : CodeRead) (of : r ≡ codeReadAs k (
     unfolding borrowerOf looksText
     ask-refused =
         let x : askText t area ≡ refuse q = refused (λ c. askedArea register c area) (λ c. asked-not c area) in
-        let l : looksText t area ≡ 0 = ap reported (refused (λ c. isRegister area otherwise notRegister >> accept (looks c (contentsOf area))) (λ c. looks-not c area)) in
+        let l : looksText t area ≡ 0 = ap reported (refused (λ c. isRegister area otherwise notRegister >> accept (looks c (contentsOf area .loans))) (λ c. looks-not c area)) in
         ask-by-text t area (record { holder = holders.Refused q; looks = 0 }) (sym (rw (x, l) refl))
 
   module _ (found : r .answer ≡ coded.Accepted) where
@@ -173,10 +173,10 @@ module _ (t area : List ℕ) (k : ℕ) (r : CodeRead) (of : r ≡ codeReadAs k (
         by-text (returnText t area) area y d
         (same-told (returnText t area) (changedArea register (returnCode code) area) area y d (by-code (λ c. changedArea register (returnCode c) area)) w)
 
-    pub ask-told : (y : Asked) → y ≡ askedAs (askedArea register code area) (looks code (contentsOf area)) → AskTold t area y
+    pub ask-told : (y : Asked) → y ≡ askedAs (askedArea register code area) (looks code (contentsOf area .loans)) → AskTold t area y
     unfolding borrowerOf looksText
     ask-told y w =
         let x : askText t area ≡ askedArea register code area = by-code (λ c. askedArea register c area) in
-        let l : looksText t area ≡ looks code (contentsOf area) =
-        ap reported (by-code (λ c. isRegister area otherwise notRegister >> accept (looks c (contentsOf area)))) ∙ rw is-register in
+        let l : looksText t area ≡ looks code (contentsOf area .loans) =
+        ap reported (by-code (λ c. isRegister area otherwise notRegister >> accept (looks c (contentsOf area .loans)))) ∙ rw is-register in
         ask-by-text t area y (w ∙ sym (rw (x, l) refl))

@@ -3,6 +3,7 @@ use Prim.Native.Nat.{ℕ}
 use mathlib.Core.List.{List}
 use lib.ListN.{getD}
 use Rattle.iscc.specs.Answer.{Answer, accept, refuse}
+use Rattle.loans.specs.Contents.{contentsOf}
 use Rattle.register.specs.declared.answer.Asked.{Asked}
 use Rattle.register.specs.declared.answer.Changed.{Changed}
 use Rattle.register.specs.declared.answer.Changed.the-variants as changes
@@ -33,15 +34,19 @@ abbrev pub holderBorrower : Holder → ℕ
 holderBorrower (holders.Borrower b) = b
 holderBorrower (holders.Refused q) = 0
 
--- the answer of an issue or a return, which is accepted with the area afterwards
+-- the answer of an issue or a return, which is accepted with the area afterwards: the number that it took is the last one there
 abbrev pub changedAs : Answer (List ℕ) → Changed
-changedAs (accept bs) = changes.Done
+changedAs (accept area) = changes.Done (contentsOf area .last)
 changedAs (refuse q) = changes.Refused q
 
--- its number by the specification
+-- its numbers by the specification: a refusal's own, and the record number, "0 with a refusal"
 abbrev pub changedNumber : Changed → ℕ
-changedNumber changes.Done = 0
+changedNumber (changes.Done n) = 0
 changedNumber (changes.Refused q) = q .number
+
+abbrev pub changedRecord : Changed → ℕ
+changedRecord (changes.Done n) = n
+changedRecord (changes.Refused q) = 0
 
 -- how many codes are out: the eight numbers, each by its main type's name; a refusal has zeros
 abbrev pub countsAs : Answer (List ℕ) → Counts

@@ -1,24 +1,11 @@
-// What the calls answer. Their numbers by the specification: `changedNumber` and `holderNumber` of specs/Representation.antt.
-ghost use mathlib.Core.Path.{_≡_};
-ghost use Rattle.register.specs.Representation.{changedNumber};
+// What the calls answer. Their numbers by the specification: `changedNumber`, `changedRecord` and `holderNumber` of
+// specs/Representation.antt.
 use iscc::refusal::Refusal;
 
-// An issue or a return: done, or why it was not.
+// An issue or a return: done, with the record number that it took, or why it was not.
 pub enum Changed {
-    Done,
+    Done(u32),
     Refused(Refusal),
-}
-
-impl Changed {
-    // The number alone, for C.
-    pub fn number(self) -> u32
-        ensures { λ r. ⌜ r ≡ changedNumber self ⌝ }
-    {
-        match self {
-            Changed::Done => 0,
-            Changed::Refused(q) => q.number,
-        }
-    }
 }
 
 // Who has a code, or why that is not told.

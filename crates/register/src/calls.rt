@@ -3,8 +3,8 @@ ghost use mathlib.Core.Path.{_≡_};
 ghost use Prim.Native.Nat.{_≤_};
 ghost use Rattle.iscc.specs.Answer.{numberOf};
 ghost use Rattle.loans.specs.Calls.{afterwards};
-ghost use Rattle.loans.specs.Contents.{issueText, returnText, askText, looksText, countsAsked};
-ghost use Rattle.register.specs.Representation.{askedAs, holderNumber, holderBorrower, borrowerIn, changedAs, changedNumber, countsAs};
+ghost use Rattle.loans.specs.Contents.{issueText, returnText, numberTaken, askText, looksText, countsAsked};
+ghost use Rattle.register.specs.Representation.{askedAs, holderNumber, holderBorrower, borrowerIn, changedAs, changedNumber, changedRecord, countsAs};
 use crate::admit::admit;
 use crate::answer::Asked;
 use crate::answer::Changed;
@@ -16,10 +16,11 @@ use crate::count;
 use iscc::code::CodeAnswer;
 use iscc::refusal::Refusal;
 
-// Issues the code that the text holds: 2, 1, 3 to 14, then 23, 20, 21.
+// Issues the code that the text holds: 2, 1, 3 to 14, then 23, 26, 20, 21.
 pub fn issue(text: &[u8], borrower: u32, area: &mut [u8]) -> Changed
     ensures answer { λ r. ⌜ r ≡ changedAs (issueText (now (text .entry)) borrower (now (area .entry))) ⌝ }
     ensures number { λ r. ⌜ changedNumber r ≡ numberOf (issueText (now (text .entry)) borrower (now (area .entry))) ⌝ }
+    ensures taken { λ r. ⌜ changedRecord r ≡ numberTaken (issueText (now (text .entry)) borrower (now (area .entry))) ⌝ }
     ensures area { λ _. ⌜ now (area .exit) ≡ afterwards (now (area .entry)) (issueText (now (text .entry)) borrower (now (area .entry))) ⌝ }
 {
     let found = admit(text, area);
@@ -32,10 +33,11 @@ pub fn issue(text: &[u8], borrower: u32, area: &mut [u8]) -> Changed
     }
 }
 
-// Takes back the code that the text holds: 2, 1, 3 to 14, then 23, 22.
+// Takes back the code that the text holds: 2, 1, 3 to 14, then 23, 26, 22.
 pub fn take_back(text: &[u8], area: &mut [u8]) -> Changed
     ensures answer { λ r. ⌜ r ≡ changedAs (returnText (now (text .entry)) (now (area .entry))) ⌝ }
     ensures number { λ r. ⌜ changedNumber r ≡ numberOf (returnText (now (text .entry)) (now (area .entry))) ⌝ }
+    ensures taken { λ r. ⌜ changedRecord r ≡ numberTaken (returnText (now (text .entry)) (now (area .entry))) ⌝ }
     ensures area { λ _. ⌜ now (area .exit) ≡ afterwards (now (area .entry)) (returnText (now (text .entry)) (now (area .entry))) ⌝ }
 {
     let found = admit(text, area);

@@ -2,6 +2,7 @@
 ghost use mathlib.Core.Path.{_≡_};
 ghost use Rattle.loans.specs.Contents.{isRegister};
 use loans::layout::COUNTS_LENGTH;
+use loans::layout::LAST_NUMBER_OFFSET;
 use loans::layout::REGISTER_LENGTH;
 use places::order;
 
@@ -13,6 +14,6 @@ pub fn is_register(area: &[u8]) -> bool
     }
     order::are_counted(
         &area[0..COUNTS_LENGTH],
-        &area[COUNTS_LENGTH..REGISTER_LENGTH],
+        &area[COUNTS_LENGTH..LAST_NUMBER_OFFSET],
     )
 }

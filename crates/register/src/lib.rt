@@ -5,3 +5,4 @@ pub mod calls;
 pub mod change;
 pub mod check;
 pub mod count;
+pub mod number;

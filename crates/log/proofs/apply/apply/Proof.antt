@@ -1,56 +1,58 @@
 -- `apply::apply` meets its contract.
-use mathlib.Core.Path.{refl}
+use mathlib.Core.Bool.{true}
+use mathlib.Core.Path.{_≡_, sym, _∙_}
 use native.Mathlib.Omega.{arith}
 use borrow.Author.Needs.{needs}
-use Rattle.log.proofs.Applied.{has-head, tag-issue, tag-return, tag-other}
+use borrow.Author.Tests.{not-true, not-false}
+use Rattle.loans.specs.PendingLog.{isNumbered}
+use Rattle.log.proofs.Applied.{has-number, no-record, skipped, gap, next-made}
 use Rattle.log.proofs.apply.apply.Statement.{statement}
 use Rattle.log.proofs.apply.apply.Tie as tie
 
-shared-slice-read-tag : tie.Need-shared-slice-read-tag
-shared-slice-read-tag c = omega (arith, has-head _ (c .before .before .before .pre .0))
-
-sub-apply-issue : tie.Need-sub-apply-issue
-sub-apply-issue c = search has-head
-
-part-apply-issue-start : tie.Need-part-apply-issue-start
-part-apply-issue-start c = search has-head
+is : (t : tie.Else1) → isNumbered (record { tag = t .before .before .before .before .args .tag; body = t .before .before .before .before .args .body .now }) ≡ true
+is t = sym (t .before .is-record .ensures) ∙ not-false _ (t .if1 .left)
 
 returns : tie.Need-returns
-returns c =
-    let issued = c .before .before in
-    let tested = issued .before .before .before in
-    tag-issue _ _ (tested .before .before .before .before .pre .0) _ refl (tested .if1 .taken) _ _ (issued .apply-issue .ensures)
-
-sub-apply-return : tie.Need-sub-apply-return
-sub-apply-return c = search has-head
-
-part-apply-return-start : tie.Need-part-apply-return-start
-part-apply-return-start c = search has-head
+returns c = no-record _ _ (sym (c .before .is-record .ensures) ∙ not-true _ (c .if1 .taken))
 
 returns-2 : tie.Need-returns-2
 returns-2 c =
-    let returned = c .before .before in
-    let tested = returned .before .before .before in
-    tag-return _ _ (tested .before .before .before .before .before .pre .0) _ refl (tested .if2 .taken) _ _ (returned .apply-return .ensures)
+    let read = c .before .before .before in
+    skipped _ _ (is (read .before)) _ _ (read .number-in .ensures) (c .before .last .ensures) (omega (arith, c .if2 .taken))
 
 returns-3 : tie.Need-returns-3
-returns-3 c = tag-other _ _ (c .before .before .before .before .before .pre .0) _ refl (c .before .if1 .left) (c .if2 .left)
+returns-3 c =
+    let above = c .before in
+    let read = above .before .before .before in
+    gap _ _ (is (read .before)) _ _ (read .number-in .ensures) (above .before .last .ensures) (above .if2 .left)
+    (λ e. omega (arith, e, above .if2 .left, c .if3 .taken))
+
+make-requires : tie.Need-make-requires
+make-requires c κs =
+    let passed = c .before .before .before .before .before .before in
+    (is passed, passed .before .before .before .before .pre)
+
+returns-4 : tie.Need-returns-4
+returns-4 c =
+    let made = c .before .before in
+    let next = made .before .before in
+    let above = next .before in
+    let read = above .before .before .before in
+    next-made _ _ (is (read .before)) _ _ (read .number-in .ensures) (above .before .last .ensures) (next .if3 .left) _ _ (made .make .ensures)
 
 pub apply-spec : {M : Type 1} → statement M
 apply-spec =
     tie.close
     (tie.spec
-    shared-slice-read-tag
-    sub-apply-issue
-    part-apply-issue-start
-    (λ c. search needs)
     (λ c κs. search needs)
-    (λ c. search needs)
     returns
-    sub-apply-return
-    part-apply-return-start
-    (λ c. search needs)
+    (λ c κs. has-number _ _ (is c))
     (λ c κs. search needs)
     (λ c. search needs)
     returns-2
-    returns-3)
+    (λ c. search needs)
+    (λ c. search needs)
+    returns-3
+    make-requires
+    (λ c. search needs)
+    returns-4)

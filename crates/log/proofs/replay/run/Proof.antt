@@ -1,9 +1,9 @@
 -- `replay::run` meets its contract. The loop's invariant: the records before the offset are applied.
-use Prim.Native.Nat.{_-_}
+use Prim.Native.Nat.{_-_, _+_, _≤_}
 use lib.ListN.{length}
 use borrow.Author.Needs.{needs}
 use Rattle.iscc.proofs.Digits.{below-all}
-use Rattle.log.proofs.Steps.{Running, at-start, ran-out, torn-there, size-fits, part-whole, stopped-there, one-more}
+use Rattle.log.proofs.Steps.{Running, at-start, ran-out, torn-there, size-fits, stopped-there, one-more}
 use Rattle.log.proofs.replay.run.Statement.{statement}
 use Rattle.log.proofs.replay.run.Tie as tie
 
@@ -19,40 +19,29 @@ loop-holds c = at-start _ _ (below-all 256 (c .before .before .args .area .now) 
 returns : tie.Need-returns Inv-loop μ-loop
 returns c = torn-there _ _ _ _ (c .before .before .before .loop .inv) (c .before .before .loop-test .taken) _ (c .before .whole-size .ensures) (c .if1 .taken)
 
-add-apply : tie.Need-add-apply Inv-loop μ-loop
-add-apply c =
-    let fits = size-fits _ _ _ _ (c .before .before .before .loop .inv) _ (c .before .whole-size .ensures) (c .if1 .left) in
-    search (needs, fits)
-
-apply-requires : tie.Need-apply-requires Inv-loop μ-loop
-apply-requires c κs =
-    let read = c .before .before .before in
-    let inv = read .before .before .loop .inv in
-    (part-whole _ _ _ _ inv _ (read .whole-size .ensures) (c .before .before .if1 .left), inv .valid)
-
-add-offset : tie.Need-add-offset Inv-loop μ-loop
-add-offset c =
-    let read = c .before .before .before .before .before .before .before .before in
-    let some = c .before .before .before .before .before .before .before .if1 .left in
-    let fits = size-fits _ _ _ _ (read .before .before .loop .inv) _ (read .whole-size .ensures) some in
-    search (needs, fits)
+-- the size of a field that is whole
+sized : (t : tie.Else1 Inv-loop μ-loop)
+    → (3 ≤ t .before .whole-size .result) × (t .before .before .before .loop .offset + t .before .whole-size .result ≤ length (t .before .before .before .before .before .before .args .log .now))
+sized t = size-fits _ _ _ _ (t .before .before .before .loop .inv) _ (t .before .whole-size .ensures) (t .if1 .left)
 
 loop-again : tie.Need-loop-again Inv-loop μ-loop
 loop-again c =
     let known = c .before .before in
     let applied = known .before .before in
-    let read = applied .before .before .before .before in
-    let start = read .before .before .before .before in
+    let some = applied .before .before .before .before in
+    let start = some .before .before .before .before .before in
     let log = below-all 256 (start .before .args .log .now) (λ k _. start .shared-slice-known .given k .fits) in
-    one-more _ _ _ _ (read .before .before .loop .inv) _ (read .whole-size .ensures) (applied .before .before .before .if1 .left) _ _ (applied .apply .ensures)
-    log (λ k. known .slice-known2 .given k .fits) (c .enum-told .given .1)
+    one-more _ _ _ _ (some .before .before .before .loop .inv) _ (some .before .whole-size .ensures) (some .if1 .left) _ _ (applied .apply .ensures)
+    log (λ k. known .slice-known2 .given k .fits) _ (c .enum-told .given .1)
 
 returns-2 : tie.Need-returns-2 Inv-loop μ-loop
 returns-2 c =
     let applied = c .before .before .before .before .before in
-    let read = applied .before .before .before .before in
-    stopped-there _ _ _ _ (read .before .before .loop .inv) _ (read .whole-size .ensures) (applied .before .before .before .if1 .left) _ _ (applied .apply .ensures)
-    _ (c .before .answer .given .1)
+    let some = applied .before .before .before .before in
+    let start = some .before .before .before .before .before in
+    let log = below-all 256 (start .before .args .log .now) (λ k _. start .shared-slice-known .given k .fits) in
+    stopped-there _ _ _ _ (some .before .before .before .loop .inv) _ (some .before .whole-size .ensures) (some .if1 .left) _ _ (applied .apply .ensures)
+    log _ (c .before .answer .given .1)
 
 returns-3 : tie.Need-returns-3 Inv-loop μ-loop
 returns-3 c = ran-out _ _ _ _ (c .before .loop .inv) (c .loop-test .left)
@@ -67,14 +56,16 @@ run-spec =
     (λ c κs. search needs)
     (λ c. search needs)
     returns
-    add-apply
+    (λ c. let s = sized c in search (needs, s))
+    (λ c. let s = sized c in search (needs, s))
+    (λ c. let s = sized c in search (needs, s))
+    (λ c. let s = sized c in search (needs, s))
+    (λ c. let s = sized c in search (needs, s))
     (λ c. search needs)
+    (λ c κs. c .before .before .before .before .before .before .loop .inv .valid)
     (λ c. search needs)
-    (λ c. search (needs, size-fits))
-    apply-requires
-    (λ c. search needs)
-    add-offset
-    (λ c. search (needs, size-fits))
+    (λ c. let s = sized (c .before .before .before .before .before .before .before .before) in search (needs, s))
+    (λ c. let s = sized (c .before .before .before .before .before .before .before .before) in search (needs, s))
     loop-again
     (λ c. search needs)
     (λ c. search needs)
