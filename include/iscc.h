@@ -44,8 +44,8 @@ extern "C" {
 /*
  * The version of both headers. The shared library's name has the major version alone, libiscc.so.0,
  * so that a program built for one major version does not start with another. Before 1.0 a new minor
- * version may change answers under the same name: a program that minds compares iscc_version() with
- * ISCC_VERSION.
+ * version may change answers and arguments under the same name, as 0.7 did with those of the loans
+ * register and its log: a program compares iscc_version() with ISCC_VERSION before it calls them.
  */
 #define ISCC_VERSION_MAJOR 0
 #define ISCC_VERSION_MINOR 7
