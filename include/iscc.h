@@ -48,9 +48,9 @@ extern "C" {
  * register and its log: a program compares iscc_version() with ISCC_VERSION before it calls them.
  */
 #define ISCC_VERSION_MAJOR 0
-#define ISCC_VERSION_MINOR 7
+#define ISCC_VERSION_MINOR 8
 #define ISCC_VERSION_PATCH 0
-#define ISCC_VERSION_TEXT "0.7.0"
+#define ISCC_VERSION_TEXT "0.8.0"
 #define ISCC_VERSION \
     (ISCC_VERSION_MAJOR * 65536 + ISCC_VERSION_MINOR * 256 + ISCC_VERSION_PATCH)
 
@@ -60,7 +60,7 @@ uint32_t iscc_version(void);
 /*
  * What a call answers: ISCC_OK or the number of a refusal. No call gives all of them; each names
  * its own, below or in loans.h, in the order of its tests. The first test that fails gives the
- * number.
+ * number. 28 to 35 are given by no call.
  */
 enum iscc_number {
     ISCC_OK = 0,
@@ -91,7 +91,10 @@ enum iscc_number {
     ISCC_NOT_REGISTER = 23,           /* the area is not a register */
     ISCC_NOT_RECORD = 24,             /* a record, its number or its code is none for the log */
     ISCC_NUMBER_GAP = 25,             /* replay: a record is missing before this one */
-    ISCC_NUMBERS_SPENT = 26           /* an issue or a return, and no record number is left */
+    ISCC_NUMBERS_SPENT = 26,          /* an issue or a return, and no record number is left */
+    ISCC_LAST_NUMBERS_DIFFER = 27,    /* promotion: only the last numbers differ */
+    ISCC_LOG_TORN = 36,               /* promotion: the log is torn */
+    ISCC_LOANS_DIFFER = 37            /* promotion: a code is in one only, or another borrower's */
 };
 
 /*
@@ -119,7 +122,7 @@ ISCC_INLINE const char *iscc_refusal_text(uint32_t number) {
     case ISCC_MAIN_TYPE_TWICE: return "Two units are of the same kind.";
     case ISCC_LACKS_DATA_OR_INSTANCE: return "The DATA or the INSTANCE unit is missing.";
     case ISCC_SUBTYPES_DIFFER: return "The SEMANTIC and the CONTENT unit do not match in subtype.";
-    case ISCC_AREA_TOO_SHORT: return "The area for the answer is too short.";
+    case ISCC_AREA_TOO_SHORT: return "An area to be written to is too short.";
     case ISCC_OTHER_TEXT: return "The code is good, but not in its one strict spelling.";
     case ISCC_NUMBER_TOO_LARGE: return "A number above 4679 cannot be written in a header.";
     case ISCC_NO_DISTANCE: return "These two have no distance.";
@@ -131,6 +134,9 @@ ISCC_INLINE const char *iscc_refusal_text(uint32_t number) {
     case ISCC_NOT_RECORD: return "This is no record of the log.";
     case ISCC_NUMBER_GAP: return "A record is missing before this one.";
     case ISCC_NUMBERS_SPENT: return "No record number is left: this register takes no more changes.";
+    case ISCC_LAST_NUMBERS_DIFFER: return "The same codes are out, but the last record numbers differ.";
+    case ISCC_LOG_TORN: return "The log is torn: its last record is not whole.";
+    case ISCC_LOANS_DIFFER: return "A code is out in one register only, or to another borrower.";
     default: return "There is no such number.";
     }
 }

@@ -1,8 +1,9 @@
 /*
  * The loans register: a code is issued to a borrower and taken back, a question tells who has it,
  * and counts tell how many are out. And the pending issues log: issues and returns are written as
- * numbered records, from which another hall makes the register again. The calls are in the same
- * libraries as those of iscc.h, which says how to link them.
+ * numbered records, from which another hall makes the register again; a last call says whether that
+ * register, the replica, may be promoted. The calls are in the same libraries as those of iscc.h,
+ * which says how to link them.
  *
  * Register. The register is one area of LOANS_REGISTER_AREA bytes that the caller lends to every
  * call: LOANS_COUNTS_BYTES of counts, behind them 256 places of 48 bytes, and from
@@ -86,7 +87,25 @@
  * Warning: a skip compares numbers and nothing else. So feed a register from one source: one takes
  * live calls, and is given no log but its own; another is made from that log by replay, and takes
  * no live calls. Fed from both, a register gives a live call the number of a record that is still
- * to come. That record is then skipped, whatever it says, and no call tells it.
+ * to come. That record is then skipped, whatever it says, and no replay tells it.
+ *
+ * Promotion. On the night, before the standby hall takes over, loans_promote says whether its
+ * register, the replica, may be promoted. It replays the log from an empty register and compares
+ * what comes out with the replica. ISCC_OK is yes: the log ran to its end, and both registers have
+ * the same codes, borrowers and last number, and so the same bytes. Every other number is no.
+ *
+ * The caller lends the log and the replica, which are only read, and a work area of
+ * LOANS_REGISTER_AREA bytes or more, which may hold anything. Afterwards its first
+ * LOANS_REGISTER_AREA bytes are the register that the replay left, for loans_ask and loans_counts
+ * to be called on it as on the replica; where a record stopped the replay, or the log is torn, the
+ * register of the records before. On 23 and 15 the work area keeps its bytes.
+ *
+ * Yes holds for the log as far as it has come. A log that lags, cut off between two records, looks
+ * whole: a replica that lags with it gets a yes, and lacks what was issued since. No call can tell
+ * this. So it is the operator's concern to get all of the log: the number of its last record is the
+ * counter's last number. The warning above stays true, also afterwards: a promoted replica takes
+ * live calls, and so no more of the old log. A part of it that came late would be skipped, since
+ * live calls have taken its numbers.
  *
  * Older versions. A register of a version before 0.7 is shorter, since it has no last number, and
  * so 23; a whole record of an older log has tag 1 or 2, and is 24. There is no converter. Replay
@@ -95,29 +114,31 @@
  * record of each into a new log. Do the same where the numbers are spent, which is 26.
  *
  * Areas. As in iscc.h an area is a pointer and a length in bytes, and must be as long as stated.
- * An area that a call may write to, the register or the writer's log, must not overlap the text,
- * the code or the log that it reads; loans_ask only reads, so that there the two may overlap, and
- * loans_counts reads one area alone.
+ * An area that a call may write to, the register, the writer's log or the work area, must not
+ * overlap the text, the code, the log or the replica that it reads. Areas that are only read may
+ * overlap each other: both of loans_ask, and the log and the replica of loans_promote. loans_counts
+ * reads one area alone.
  * Beside this and the lock below nothing is taken on trust, no position and no byte of a log. A
- * null pointer with length 0 is an empty area: 1 as a text, 23 as a register, 24 as a code, and as
- * a log one without records.
- *   - Text is bytes and keeps them. It needs no NUL at its end. A code and a log that are read keep
- *     their bytes too.
+ * null pointer with length 0 is an empty area: 1 as a text, 23 as a register, 24 as a code, 15 as
+ * a work area, and as a log one without records.
+ *   - Text is bytes and keeps them. It needs no NUL at its end. A code, a log and a replica that
+ *     are read keep their bytes too.
  *   - The register is read and written in place. An issue or a return that is accepted keeps the
  *     bytes of every place before that of its code; from there on the used places move by one, up
  *     for an issue and down for a return. Two counts change by one: the first, and that of the
  *     code's main type. The last number becomes one more.
  *   - The writer changes the bytes of its record and no other, and reads none of the log.
- *   - A refusal changes no byte, and neither do loans_ask and loans_counts. Of all calls
- *     loans_replay alone leaves changes with a refusal: the records before the one that stops it
- *     stay applied.
+ *   - The work area is written in its first LOANS_REGISTER_AREA bytes and in no other.
+ *   - A refusal changes no byte, and neither do loans_ask and loans_counts. Of all calls two alone
+ *     leave changes with a refusal: loans_replay, where the records before the one that stops it
+ *     stay applied; and loans_promote, in its work area, with every refusal but 23 and 15.
  *
  * Threads. No memory is taken and nothing is kept between calls: all that lasts is in the register
  * and the log. So several threads may call at once where each has a register and a log of its own,
  * or where all only read them: where all ask or take the counts, or replay one log onto registers
- * of their own. Otherwise the caller holds a lock for the register, and one for the log and its
- * position, over every call; over a change and its record together, so that the log has them in
- * their order.
+ * of their own, or hold one log against one replica in work areas of their own. Otherwise the
+ * caller holds a lock for the register, and one for the log and its position, over every call; over
+ * a change and its record together, so that the log has them in their order.
  */
 #ifndef LOANS_H
 #define LOANS_H
@@ -282,6 +303,34 @@ typedef struct {
  * that was applied.
  */
 loans_replayed loans_replay(const uint8_t *log, size_t log_len, uint8_t *area, size_t area_len);
+
+/*
+ * May the replica be promoted? ISCC_OK is yes, and the rest is zeros. Else a refusal, with
+ *   - the offset in the log, for 24, 25, 20, 21 and 22 that of the record that stopped the replay,
+ *     for 36 that of the torn record; with the others 0;
+ *   - the code, for 37 alone, as iscc_code writes it, filled up with zeros, and its length; with
+ *     the others zeros and 0.
+ */
+typedef struct {
+    uint32_t number;
+    size_t offset;
+    size_t code_length;
+    uint8_t code[ISCC_CODE_AREA];
+} loans_verdict;
+
+/*
+ * Says whether a replica may be promoted: whether the log, replayed from an empty register, runs to
+ * its end and gives the codes, borrowers and last number that the replica has. `log` is the log
+ * alone, up to the writer's position and from its first record on, which has the number 1.
+ *
+ * Refusals: 23 where the replica is not a register; then 15 where the work area is below
+ * LOANS_REGISTER_AREA bytes; then 24, 25, 20, 21 or 22 where a record stops the replay, as
+ * loans_replay; then 36 where the log is torn; then 37 where a code is out in one of the two
+ * registers alone, or to another borrower in each, and of such codes the least is told, compared
+ * byte by byte; then 27 where only the last numbers differ.
+ */
+loans_verdict loans_promote(const uint8_t *log, size_t log_len, const uint8_t *replica,
+                            size_t replica_len, uint8_t *work, size_t work_len);
 
 #ifdef __cplusplus
 }

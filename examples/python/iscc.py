@@ -87,6 +87,9 @@ class Refusal(enum.IntEnum):
     NOT_RECORD = 24
     NUMBER_GAP = 25
     NUMBERS_SPENT = 26
+    LAST_NUMBERS_DIFFER = 27
+    LOG_TORN = 36
+    LOANS_DIFFER = 37
 
 
 class Refused(ValueError):
@@ -211,7 +214,7 @@ def _written(call: Callable[..., _Written], data: bytes, area: int) -> bytes:
 
 
 def version() -> str:
-    """The version of the library, as '0.7.0'."""
+    """The version of the library, as '0.8.0'."""
     number = int(_library().iscc_version())
     return f"{number >> 16}.{number >> 8 & 255}.{number & 255}"
 

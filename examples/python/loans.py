@@ -23,11 +23,14 @@ told; another hall replays the log, as often as it likes:
     standby.replay(log.records())           # None: all was applied already, and nothing changes
 
 A register is to be fed from one source: it takes live calls, or it is made from the log of another.
-loans.h says why.
+loans.h says why. On the night, before the standby takes over:
+
+    loans.promote(log.records(), standby)   # None: yes; else iscc.Refused is raised and says why
 
 The module stands on the module iscc, which finds the library and says what a text or a code may be:
 a program needs both files. Where the library refuses, iscc.Refused is raised, and the register and
-the log are as they were; only a replay that is stopped keeps what it did before.
+the log are as they were; only a replay that is stopped keeps what it did before, and a work area
+what promote wrote there.
 """
 
 from __future__ import annotations
@@ -41,13 +44,26 @@ from typing import Any, NamedTuple, Union
 
 import iscc
 
-__all__ = ["AREA", "RECORD_MOST", "Area", "Counts", "Found", "Log", "Register", "Stopped"]
+__all__ = [
+    "AREA",
+    "RECORD_MOST",
+    "Area",
+    "Counts",
+    "Found",
+    "LoansDiffer",
+    "Log",
+    "LogTorn",
+    "Register",
+    "Stopped",
+    "promote",
+]
 
 AREA = 12308  # the length of a register in bytes
 RECORD_MOST = 53  # the longest record of a log in bytes
 _LAST_NUMBER_OFFSET = 12304  # where the four bytes of the last number start
 _TORN, _STOPPED = 2, 3  # how a replay can end, in loans.h
-_OLDEST = 0x0700  # version 0.7.0: before it records had no numbers
+_OLDEST = 0x0800  # version 0.8.0: before it nobody could ask for a promotion
+_STOPS = (20, 21, 22, 24, 25)  # the numbers of a record that stops a replay
 Area = Union[bytearray, memoryview, mmap.mmap]
 
 
@@ -88,6 +104,15 @@ class _Replayed(ctypes.Structure):
     ]
 
 
+class _Verdict(ctypes.Structure):
+    _fields_ = [
+        ("number", ctypes.c_uint32),
+        ("offset", ctypes.c_size_t),
+        ("code_length", ctypes.c_size_t),
+        ("code", ctypes.c_uint8 * iscc._CODE_AREA),
+    ]
+
+
 class Found(NamedTuple):
     """Who has a code, None where it is not out, and at how many places the question looked."""
 
@@ -122,6 +147,34 @@ class Stopped(iscc.Refused):
         return f"the record at byte {self.offset} stops the replay: {super().__str__()}"
 
 
+class LogTorn(iscc.Refused):
+    """The log that was to show a replica true is torn: the `offset` of its torn record."""
+
+    offset: int
+
+    def __init__(self, offset: int) -> None:
+        super().__init__(iscc.Refusal.LOG_TORN)
+        self.args = (offset,)
+        self.offset = offset
+
+    def __str__(self) -> str:
+        return f"the record at byte {self.offset} is not whole: {super().__str__()}"
+
+
+class LoansDiffer(iscc.Refused):
+    """The least `code` that is out by the log or by the replica alone, or to two borrowers."""
+
+    code: bytes
+
+    def __init__(self, code: bytes) -> None:
+        super().__init__(iscc.Refusal.LOANS_DIFFER)
+        self.args = (code,)
+        self.code = code
+
+    def __str__(self) -> str:
+        return f"log and replica differ about {iscc.text(self.code)}: {super().__str__()}"
+
+
 def _declare(library: ctypes.CDLL) -> None:
     text = [ctypes.c_char_p, ctypes.c_size_t]
     area = [ctypes.c_void_p, ctypes.c_size_t]
@@ -137,13 +190,15 @@ def _declare(library: ctypes.CDLL) -> None:
     library.loans_log_return.restype = library.loans_log_issue.restype = iscc._Written
     library.loans_replay.argtypes = text + area
     library.loans_replay.restype = _Replayed
+    library.loans_promote.argtypes = text + area + area
+    library.loans_promote.restype = _Verdict
 
 
 @functools.cache
 def _library() -> ctypes.CDLL:
     library = iscc._library()
     if library.iscc_version() < _OLDEST:
-        said = f"{library._name} has version {iscc.version()}; this module needs 0.7.0 or later"
+        said = f"{library._name} has version {iscc.version()}; this module needs 0.8.0 or later"
         raise iscc.WrongLibrary(said)
     try:
         _declare(library)
@@ -323,3 +378,45 @@ class Log:
             written = call(*_lent(self.area), self.position, number, data, len(data), *more)
             _check_number(written.number)
             self.position += written.length
+
+
+def _check_apart(replica: Any, work: Any) -> None:
+    # The library takes this on trust.
+    starts = ctypes.addressof(replica), ctypes.addressof(work)
+    if max(starts) < min(starts[0] + len(replica), starts[1] + len(work)):
+        raise ValueError("the work area overlaps the replica")
+
+
+def _check_verdict(verdict: _Verdict) -> None:
+    if verdict.number == iscc.Refusal.LOG_TORN:
+        raise LogTorn(verdict.offset)
+    if verdict.number == iscc.Refusal.LOANS_DIFFER:
+        raise LoansDiffer(bytes(verdict.code[: verdict.code_length]))
+    if verdict.number in _STOPS:
+        raise Stopped(verdict.number, verdict.offset)
+    _check_number(verdict.number)
+
+
+def promote(log: iscc.Bytes, replica: Register, work: Area | None = None) -> None:
+    """May the replica be promoted? Yes where it is what the log gives, replayed from its start.
+
+    Refused where not, in this order: 23 (the replica is no register); 15 (the work area is shorter
+    than one); Stopped, as by replay; LogTorn; LoansDiffer; 27 (only the last numbers differ).
+
+    After any answer but 23 and 15 the work area begins with the register that the log gave, so that
+    it can be asked who has a code by the log. Yes holds for the log as far as it has come: loans.h
+    says what the operator has to see to.
+    """
+    data = _log_bytes(log)
+    if not isinstance(replica, Register):
+        raise TypeError(f"a replica is a Register, not {type(replica).__name__}")
+    area = bytearray(AREA) if work is None else work
+    _check_area("work area", area)
+
+    def call(held: Any, length: int) -> _Verdict:
+        lent = _lent(area)
+        _check_apart(held, lent[0])
+        verdict: _Verdict = _library().loans_promote(data, len(data), held, length, *lent)
+        return verdict
+
+    _check_verdict(replica._call(call))

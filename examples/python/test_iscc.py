@@ -86,7 +86,10 @@ class Header(unittest.TestCase):
             self.assertEqual(iscc.refusal_text(numbers[name]), sentence)
 
     def test_no_such_number(self) -> None:
-        for number in (len(iscc.Refusal) + 1, 2**32 - 1):
+        after = max(iscc.Refusal) + 1
+        between = set(range(1, after)) - set(iscc.Refusal)
+        self.assertEqual(between, set(range(28, 36)))
+        for number in (*between, after, 2**32 - 1):
             self.assertEqual(iscc.refusal_text(number), "There is no such number.")
 
     def test_number_out_of_range(self) -> None:
@@ -277,7 +280,8 @@ class Refusals(unittest.TestCase):
             self.assertEqual(refused.sentence, iscc.refusal_text(refusal))
 
     def test_number_of_a_later_library(self) -> None:
-        self.assertEqual(iscc.Refused(len(iscc.Refusal) + 1).name, "UNKNOWN")
+        for number in (28, 35, max(iscc.Refusal) + 1):
+            self.assertEqual(iscc.Refused(number).name, "UNKNOWN")
 
     def test_pickle(self) -> None:
         again = pickle.loads(pickle.dumps(iscc.Refused(4)))

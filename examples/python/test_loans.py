@@ -9,6 +9,7 @@ The last line is 'N passed, M failed', and the exit status is 0 only where nothi
 
 from __future__ import annotations
 
+import ctypes
 import mmap
 import pathlib
 import pickle
@@ -109,6 +110,16 @@ class Header(unittest.TestCase):
         self.assertEqual(self.fields("loans_holder"), holder)
         self.assertEqual(self.fields("loans_counted"), counted)
         self.assertEqual(counted, ["number", *loans.Counts._fields])
+
+    def test_verdict(self) -> None:
+        found = re.search(r"^typedef struct {([^}]+)} loans_verdict;$", HEADER, re.MULTILINE)
+        assert found
+        kinds: dict[str, object] = {"uint32_t": ctypes.c_uint32, "size_t": ctypes.c_size_t}
+        kinds["uint8_t"] = ctypes.c_uint8 * iscc._CODE_AREA
+        lines = re.findall(r"^    (\w+) (\w+)(\[ISCC_CODE_AREA\])?;$", found[1], re.MULTILINE)
+        self.assertEqual([bool(count) for *_, count in lines], [False, False, False, True])
+        due = [(name, kinds[kind]) for kind, name, _ in lines]
+        self.assertEqual(loans._Verdict._fields_, due)
 
     def test_star(self) -> None:
         given: dict[str, object] = {}
@@ -513,6 +524,263 @@ class Log(unittest.TestCase):
         self.assertRaisesRegex(TypeError, "^a log to be replayed is bytes, not str$", replay, "")
 
 
+# As the counter typed them in the drill that failed: units in small letters and any order.
+NINE = (
+    "gaaqwketqbo2qecu-iaa6xiv7lxaq2gts",
+    "iaavizdreaumro5n-gaatho3sqsnsbaab-aaazxbo7m2amyknu",
+    "eea3zowykhmqejqs-iaazcfhb6v4cytrs-gaa5udlgacvdgnrp",
+    "iaa4ifitgux6cwdd-gaatubc5wb3rty7r",
+    "gaauxtqfwv22fsx2-eaa6llujvxrkyrcv-caaw7z3kdyjlzugy-iaa5nnvqzthcygdj",
+    "iaa5kt66odpbssko-aaatckeyrsjaoub3-gaaz7p5dlshpdwkv",
+    "iaazt2ymrkjkqn67-ciatjjk6yjyaxmrk-eias7wx6new55rna-gaa7ky5p54ysw4y6-aaa32uwr5ftxglyc",
+    "gaa66crnnkzvputd-iaaxh2jmlbd7gakn",
+    "gaatberypscybcwu-iaa5gyqjztfcafca-eeaqcvq6nep4xh4h",
+)
+Verdict = tuple[int, int, bytes]  # the number, the offset in the log, the code
+YES: Verdict = (0, 0, b"")
+
+
+class Promotion(unittest.TestCase):
+    """May a replica be promoted?"""
+
+    def setUp(self) -> None:
+        self.log = loans.Log(bytearray(3 * loans.RECORD_MOST))
+        self.starts, self.areas = [0], [bytes(loans.AREA)]
+        live = loans.Register()
+        for text, borrower in ((TYPED, 258), (ID, 7), (TYPED, None)):
+            if borrower is None:
+                self.log.take_back(live.take_back(text), iscc.code(text))
+            else:
+                self.log.issue(live.issue(text, borrower), iscc.code(text), borrower)
+            self.starts.append(self.log.position)
+            self.areas.append(bytes(live.area))
+        self.records = self.log.records()
+
+    def verdict(self, log: iscc.Bytes, replica: loans.Register, work: loans.Area | None) -> Verdict:
+        """The answer, or the refusal that was raised, which must be of the class of its number."""
+        try:
+            loans.promote(log, replica, work)
+        except iscc.Refused as refused:
+            number = refused.number
+            classes: dict[int, object] = dict.fromkeys((20, 21, 22, 24, 25), loans.Stopped)
+            classes |= {36: loans.LogTorn, 37: loans.LoansDiffer}
+            self.assertIs(type(refused), classes.get(number, iscc.Refused))
+            return number, getattr(refused, "offset", 0), getattr(refused, "code", b"")
+        return YES
+
+    def gives(
+        self, log: bytes, area: bytes, due: Verdict, left: bytes | None, length: int = loans.AREA
+    ) -> None:
+        """The answer, and every byte: `left` is what the work area begins with, None as before."""
+        for filling in (b"\x00", b"\x5a", b"\xff", area or b"\x01"):
+            before = (filling * (length // len(filling) + 1))[:length]
+            replica, work = loans.Register(bytearray(area)), bytearray(before)
+            given = bytearray(log)
+            self.assertEqual(self.verdict(given, replica, work), due)
+            self.assertEqual((bytes(replica.area), bytes(given)), (area, log))
+            self.assertEqual(bytes(work), before if left is None else left + before[loans.AREA :])
+
+    def test_yes(self) -> None:
+        for start, area in zip(self.starts, self.areas):
+            for length in (loans.AREA, loans.AREA + 1, 3 * loans.AREA):
+                self.gives(self.records[:start], area, YES, area, length)
+        self.gives(self.records * 2, self.areas[3], YES, self.areas[3])
+
+    def test_without_a_work_area(self) -> None:
+        replica = loans.Register(bytearray(self.areas[3]))
+        self.assertIsNone(loans.promote(self.records, replica))
+        self.assertEqual(answer(loans.promote, self.records[:-1], replica), 36)
+        self.assertEqual(bytes(replica.area), self.areas[3])
+
+    def logs(self) -> list[tuple[bytes, int, int]]:
+        """Logs that stop or tear a replay, with their number and offset, here or at byte 29."""
+        issue, back = self.records[:29], bytes.fromhex("04 0016 00000002") + iscc.code(WRITTEN)
+        other = bytes.fromhex("04 000e 00000002") + iscc.code(ID)
+        return [
+            (bytes(3), 24, 0),
+            (b"\x01" + issue[1:], 24, 0),
+            (issue + bytes(3), 24, 29),
+            (issue[:3] + bytes(4) + issue[7:], 24, 0),
+            (back, 25, 0),
+            (issue + back[:6] + b"\x03" + back[7:], 25, 29),
+            (issue + issue[:6] + b"\x02" + issue[7:], 20, 29),
+            (issue + other, 22, 29),
+            (issue[:1], 36, 0),
+            (issue + back[:-1], 36, 29),
+        ]
+
+    def test_stops(self) -> None:
+        for log, number, offset in self.logs():
+            left = self.areas[1 if offset else 0]
+            for area in self.areas:  # 37 and 27 come later
+                self.gives(log, area, (number, offset, b""), left)
+                if number != 36:
+                    self.gives(log + self.records[:30], area, (number, offset, b""), left)
+                    self.gives(log[:-1], area, (36, offset, b""), left)
+
+    def test_all_out(self) -> None:
+        log = loans.Log(bytearray((PLACES + 1) * 21))
+        for index in range(PLACES + 1):
+            log.issue(index + 1, iscc.code(label(index)), index)
+        area = bytes(full().area)
+        replica, work = loans.Register(bytearray(area)), bytearray(b"\x5a" * (loans.AREA + 1))
+        self.assertEqual(self.verdict(log.records()[:-21], replica, None), YES)
+        self.assertEqual(self.verdict(log.records(), replica, work), (21, PLACES * 21, b""))
+        self.assertEqual(bytes(work), area + b"\x5a")
+
+    def test_not_a_register(self) -> None:
+        damaged = self.areas[2][:1] + b"\x05" + self.areas[2][2:]
+        areas = (b"", bytes(1), self.areas[2][:-1], self.areas[2] + b"\0", damaged)
+        for log in (b"", self.records, *(log for log, *_ in self.logs())):
+            for area in areas:
+                for length in (0, loans.AREA - 1, loans.AREA, loans.AREA + 1):
+                    self.gives(log, area, (23, 0, b""), None, length)
+
+    def test_short_work_area(self) -> None:
+        for log in (b"", self.records, *(log for log, *_ in self.logs())):
+            for area in self.areas:
+                for length in (0, 1, loans.AREA - LAST, loans.AREA - 1):
+                    self.gives(log, area, (15, 0, b""), None, length)
+
+    def test_every_cut(self) -> None:
+        typed, other = iscc.code(TYPED), iscc.code(ID)
+        for cut in range(len(self.records) + 1):
+            whole = max(i for i, start in enumerate(self.starts) if start <= cut)
+            for had, area in enumerate(self.areas):
+                least = typed if (whole in (1, 2)) != (had in (1, 2)) else other
+                due = YES if had == whole else (37, 0, least)
+                if cut != self.starts[whole]:
+                    due = (36, self.starts[whole], b"")
+                self.gives(self.records[:cut], area, due, self.areas[whole])
+
+    def test_least(self) -> None:
+        codes = sorted(iscc.code(text) for text in (TYPED, WIDE, ID, label(1), label(2)))
+        log = loans.Log(bytearray(5 * loans.RECORD_MOST))
+        for number, code in enumerate(reversed(codes), 1):
+            log.issue(number, code, 5)
+        left = area_of([place_of(code, 5) for code in codes], 5)
+        for index, code in enumerate(codes):
+            same = [place_of(code, 5) for code in codes[:index]]
+            rest = [place_of(code, 6) for code in codes[index + 1 :]]
+            for places in (same, same + rest, [*same, place_of(code, 6)]):
+                for last in (5, 6):  # 37 comes before 27
+                    self.gives(log.records(), area_of(places, last), (37, 0, code), left)
+            # The other way round: the replica alone holds this one and those behind it.
+            part = loans.Log(bytearray(5 * loans.RECORD_MOST))
+            for number, out in enumerate(codes[:index], 1):
+                part.issue(number, out, 5)
+            self.gives(part.records(), left, (37, 0, code), area_of(same, index))
+
+    def test_last_numbers(self) -> None:
+        for last in (0, 1, 3, 0x0200, 0x02000000, 2**32 - 1):
+            area = self.areas[2][:-LAST] + last.to_bytes(LAST, "big")
+            self.gives(self.records[: self.starts[2]], area, (27, 0, b""), self.areas[2])
+
+    def test_said(self) -> None:
+        replica = loans.Register(bytearray(self.areas[3]))
+        differ = f"log and replica differ about {WRITTEN}: {iscc.Refused(37)}"
+        torn = f"the record at byte 29 is not whole: {iscc.Refused(36)}"
+        for cut, said in ((29, differ), (30, torn)):
+            with self.assertRaises(iscc.Refused) as caught:
+                loans.promote(self.records[:cut], replica)
+            self.assertEqual(str(caught.exception), said)
+
+    def test_asked_afterwards(self) -> None:
+        work = bytearray(loans.AREA)
+        with self.assertRaises(loans.LoansDiffer) as caught:
+            loans.promote(self.records[:29], loans.Register(), work)
+        text = iscc.text(caught.exception.code)
+        self.assertEqual(text, WRITTEN)
+        self.assertEqual(loans.Register(work).find(text).borrower, 258)
+
+    def test_pickled(self) -> None:
+        torn = pickle.loads(pickle.dumps(loans.LogTorn(29)))
+        self.assertEqual((torn.number, torn.offset), (36, 29))
+        differ = pickle.loads(pickle.dumps(loans.LoansDiffer(iscc.code(ID))))
+        self.assertEqual((differ.number, differ.code), (37, iscc.code(ID)))
+
+    def test_in_a_file(self) -> None:
+        with tempfile.TemporaryFile() as file:
+            file.write(self.areas[3])
+            file.truncate(2 * loans.AREA)
+            with mmap.mmap(file.fileno(), 0) as mapped, memoryview(mapped) as view:
+                replica, work = view[: loans.AREA], view[loans.AREA :]
+                self.assertIsNone(loans.promote(self.records, loans.Register(replica), work))
+                self.assertEqual(replica, work)
+                replica.release()
+                work.release()
+
+    def test_overlap(self) -> None:
+        area = bytearray(self.areas[3] + bytes(loans.AREA))
+        view = memoryview(area)
+        for start in (1 - loans.AREA, 0, 1, loans.AREA - 1):
+            replica = loans.Register(view[max(0, -start) :][: loans.AREA])
+            work = view[max(0, start) :][: loans.AREA]
+            said = "^the work area overlaps the replica$"
+            self.assertRaisesRegex(ValueError, said, loans.promote, b"", replica, work)
+        self.assertEqual(bytes(area), self.areas[3] + bytes(loans.AREA))
+        replica = loans.Register(view[: loans.AREA])
+        self.assertEqual(self.verdict(b"", replica, view[5:5]), (15, 0, b""))
+        self.assertEqual(self.verdict(view[16:17], replica, view[loans.AREA :]), (36, 0, b""))
+
+    def test_areas_are_their_owners_again(self) -> None:
+        area, work = bytearray(loans.AREA), bytearray(loans.AREA)
+        try:
+            loans.promote(self.records, loans.Register(area), work)
+        except iscc.Refused:
+            area.append(0)
+            work.append(0)
+        self.assertEqual((len(area), len(work)), (loans.AREA + 1, loans.AREA + 1))
+
+    def test_waits_for_the_replica(self) -> None:
+        replica, told = loans.Register(bytearray(self.areas[3])), threading.Event()
+
+        def ask() -> None:
+            loans.promote(self.records, replica)
+            told.set()
+
+        thread = threading.Thread(target=ask)
+        with replica._lock:  # as in a call of another thread
+            thread.start()
+            self.assertFalse(told.wait(0.05))
+        self.assertTrue(told.wait(10))
+        thread.join()
+
+    def test_other_arguments(self) -> None:
+        promote: Call = loans.promote
+        replica, work = loans.Register(), bytearray(loans.AREA)
+        said = "^a replica is a Register, not bytearray$"
+        self.assertRaisesRegex(TypeError, said, promote, b"", bytearray(loans.AREA), work)
+        said = "^a work area is a bytearray, a memoryview or an mmap, not bytes$"
+        self.assertRaisesRegex(TypeError, said, promote, b"", replica, bytes(loans.AREA))
+        said = "^a log to be replayed is bytes, not str$"
+        self.assertRaisesRegex(TypeError, said, promote, "", replica, work)
+        read_only = memoryview(bytes(loans.AREA))
+        self.assertRaisesRegex(TypeError, "not writable", promote, b"", replica, read_only)
+
+    def test_drill(self) -> None:
+        live, log = loans.Register(), loans.Log(bytearray(9 * loans.RECORD_MOST))
+        starts, codes, composites = [0], [iscc.code(text) for text in NINE], loans.Register()
+        for borrower, (text, code) in enumerate(zip(NINE, codes), 1200):
+            log.issue(live.issue(text, borrower), code, borrower)
+            starts.append(log.position)
+        for borrower, code in reversed(list(enumerate(codes, 1200))):
+            composites.issue(f" {iscc.text(code).swapcase()}- ", borrower)
+        records, after = log.records(), bytes(live.area)
+        self.gives(records, bytes(composites.area), YES, after)
+        self.gives(records, bytes(loans.AREA), (37, 0, min(codes)), after)
+        standby = loans.Register()
+        for index, start in enumerate(starts[:-1]):
+            self.assertIsNone(standby.replay(records[:start]))
+            self.gives(records, bytes(standby.area), (37, 0, min(codes[index:])), after)
+        eight = bytes(standby.area)
+        for cut in range(starts[8] + 1, starts[9]):
+            for area in (bytes(loans.AREA), eight, after):
+                self.gives(records[:cut], area, (36, starts[8], b""), eight)
+        self.assertIsNone(standby.replay(records))
+        self.gives(records, bytes(standby.area), YES, after)
+
+
 class Threads(unittest.TestCase):
     """Threads that share a register do not disturb each other."""
 
@@ -577,7 +845,7 @@ class Threads(unittest.TestCase):
 
 
 class Library(unittest.TestCase):
-    """A library of an older version, whose records have no numbers, or one without a register."""
+    """A library of an older version, which knows of no promotion, or one without a register."""
 
     def older(self, minor: int, headers: str) -> tuple[str, str]:
         """The path of a library with the calls of these headers, and what a question says of it."""
@@ -594,14 +862,17 @@ class Library(unittest.TestCase):
         return older, said
 
     def test_without_register(self) -> None:
-        older, said = self.older(7, test_iscc.HEADER)
-        self.assertIn(f"WrongLibrary: {older} has no loans register or no log", said)
+        promotion = re.sub("loans_promote", "loans_other", HEADER)
+        for headers in (test_iscc.HEADER, test_iscc.HEADER + promotion):
+            older, said = self.older(8, headers)
+            self.assertIn(f"WrongLibrary: {older} has no loans register or no log", said)
 
-    def test_without_numbers(self) -> None:
+    def test_older(self) -> None:
         for headers in (test_iscc.HEADER + HEADER, test_iscc.HEADER):
-            older, said = self.older(6, headers)
-            due = f"WrongLibrary: {older} has version 0.6.0; this module needs 0.7.0 or later"
-            self.assertIn(due, said)
+            for minor in (6, 7):
+                older, said = self.older(minor, headers)
+                due = f"{older} has version 0.{minor}.0; this module needs 0.8.0 or later"
+                self.assertIn(f"WrongLibrary: {due}", said)
 
 
 if __name__ == "__main__":

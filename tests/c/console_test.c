@@ -11,6 +11,7 @@
 #include "iscc.h"
 #include "loans_blocks.h"
 #include "log_blocks.h"
+#include "promotion_blocks.h"
 
 #include <inttypes.h>
 #include <signal.h>
@@ -365,6 +366,21 @@ static const struct {
     {"log_live_number", log_live_number},
     {"log_spent", log_spent},
     {"log_older", log_older},
+    {"promote_yes", promote_yes},
+    {"promote_not_a_register", promote_not_a_register},
+    {"promote_short_work", promote_short_work},
+    {"promote_stops", promote_stops},
+    {"promote_every_cut", promote_every_cut},
+    {"promote_least", promote_least},
+    {"promote_borrowers", promote_borrowers},
+    {"promote_last_numbers", promote_last_numbers},
+    {"promote_full", promote_full},
+    {"promote_null", promote_null},
+    {"promote_overlap", promote_overlap},
+    {"promote_only_read", promote_only_read},
+    {"promote_two_sources", promote_two_sources},
+    {"promote_drill", promote_drill},
+    {"promote_drill_torn", promote_drill_torn},
 };
 
 static int usage(void) {

@@ -1,8 +1,8 @@
 /*
  * What a program sees of an installed library, in C and in C++: prints the version, then each
- * number with its sentence. The exit status is 1 where the header's version is not the library's, a
- * sentence could not be shown to a person, or it is not the one that stands here, or the register
- * or its log does not answer.
+ * number with its sentence, and last a number that there is not. The exit status is 1 where the
+ * header's version is not the library's, a sentence could not be shown to a person, or it is not
+ * the one that stands here, or the register, its log or its replica does not answer.
  */
 #include <loans.h>
 
@@ -10,6 +10,8 @@
 #include <string.h>
 
 static int wrong = 0;
+
+#define UNKNOWN "There is no such number."
 
 /* Once more, by number: a sentence that changes places with another would still be a sentence. */
 static const char *const due[] = {
@@ -28,7 +30,7 @@ static const char *const due[] = {
     "Two units are of the same kind.",
     "The DATA or the INSTANCE unit is missing.",
     "The SEMANTIC and the CONTENT unit do not match in subtype.",
-    "The area for the answer is too short.",
+    "An area to be written to is too short.",
     "The code is good, but not in its one strict spelling.",
     "A number above 4679 cannot be written in a header.",
     "These two have no distance.",
@@ -40,9 +42,13 @@ static const char *const due[] = {
     "This is no record of the log.",
     "A record is missing before this one.",
     "No record number is left: this register takes no more changes.",
-    "There is no such number.",
+    "The same codes are out, but the last record numbers differ.",
+    UNKNOWN, UNKNOWN, UNKNOWN, UNKNOWN, UNKNOWN, UNKNOWN, UNKNOWN, UNKNOWN, /* 28 to 35 */
+    "The log is torn: its last record is not whole.",
+    "A code is out in one register only, or to another borrower.",
+    UNKNOWN,
 };
-typedef char one_for_each[sizeof due / sizeof due[0] == ISCC_NUMBERS_SPENT + 2 ? 1 : -1];
+typedef char one_for_each[sizeof due / sizeof due[0] == ISCC_LOANS_DIFFER + 2 ? 1 : -1];
 
 static void expect(int holds, const char *what, uint32_t number) {
     if (holds) return;
@@ -74,6 +80,7 @@ static void check_words(uint32_t number) {
     uint32_t other;
     expect(is_sentence(words), "no sentence", number);
     expect(strcmp(words, due[number]) == 0, "another sentence", number);
+    if (strcmp(due[number], UNKNOWN) == 0) return;
     for (other = 0; other < number; other++)
         expect(strcmp(words, iscc_refusal_text(other)) != 0, "the words of another number", number);
     printf("%lu %s\n", (unsigned long)number, words);
@@ -121,14 +128,38 @@ static void check_log(void) {
     expect(answer.number == ISCC_NUMBER_GAP && answer.offset == first, "no gap", answer.number);
 }
 
+/* The struct of the answer is the longest: C++ and C must mean the same bytes by it. */
+static void check_promotion(void) {
+    static uint8_t replica[LOANS_REGISTER_AREA], work[LOANS_REGISTER_AREA];
+    static const uint8_t code[] = {0x30, 0, 0, 0, 0, 0};
+    static const uint8_t rest[ISCC_CODE_AREA - sizeof code] = {0};
+    uint8_t log[LOANS_LOG_RECORD_MOST];
+    size_t length = loans_log_issue(log, sizeof log, 0, 1, code, sizeof code, 5).length;
+    loans_verdict verdict = loans_promote(log, length, replica, sizeof replica, work, sizeof work);
+    expect(verdict.number == ISCC_LOANS_DIFFER, "no difference", verdict.number);
+    expect(verdict.offset == 0, "an offset", (uint32_t)verdict.offset);
+    expect(verdict.code_length == sizeof code, "another length", (uint32_t)verdict.code_length);
+    expect(memcmp(verdict.code, code, sizeof code) == 0, "another code", 37);
+    expect(memcmp(verdict.code + sizeof code, rest, sizeof rest) == 0, "bytes behind the code", 37);
+    expect(loans_replay(log, length, replica, sizeof replica).end == LOANS_RAN, "not replayed", 5);
+    expect(memcmp(work, replica, sizeof work) == 0, "another register in the work area", 5);
+    verdict = loans_promote(log, length, replica, sizeof replica, work, sizeof work);
+    expect(verdict.number == ISCC_OK && verdict.code_length == 0, "not promoted", verdict.number);
+    length += loans_log_return(log, sizeof log, length, 2, code, sizeof code).length;
+    verdict = loans_promote(log, length - 1, replica, sizeof replica, work, sizeof work);
+    expect(verdict.number == ISCC_LOG_TORN && verdict.offset == 17, "no tear", verdict.number);
+}
+
 int main(void) {
-    const uint32_t unknown = ISCC_NUMBERS_SPENT + 1;
+    const uint32_t unknown = ISCC_LOANS_DIFFER + 1;
     uint32_t number;
     check_version();
     check_register();
     check_log();
+    check_promotion();
     for (number = ISCC_OK; number <= unknown; number++) check_words(number);
-    expect(strcmp(iscc_refusal_text(0xFFFFFFFFu), iscc_refusal_text(unknown)) == 0,
+    expect(strcmp(iscc_refusal_text(0xFFFFFFFFu), UNKNOWN) == 0,
            "another unknown number has other words", 0xFFFFFFFFu);
+    printf("%lu %s\n", (unsigned long)unknown, iscc_refusal_text(unknown));
     return wrong;
 }

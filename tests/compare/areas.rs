@@ -5,6 +5,10 @@ use crate::{codes, counts, records, texts};
 use harness::area::places;
 use harness::call::{Call, Request};
 use reference::register::{place_of, BORROWER, CODE, COUNTS, LAST, LENGTH, PLACE, PLACES, ZERO};
+use std::collections::BTreeMap;
+
+/// Who has which code.
+pub type Loans = BTreeMap<Vec<u8>, u32>;
 
 /// Any borrower; those at the ends of a byte or a sign more often.
 pub fn borrower(random: &mut Random) -> u32 {
@@ -59,6 +63,24 @@ pub fn register_of(random: &mut Random, used: usize) -> Filled {
     counts::put(&mut area);
     put_last(&mut area, last_number(random));
     Filled { area, codes, used }
+}
+
+/// The register of these loans.
+pub fn of_loans(loans: &Loans, last: u32) -> Vec<u8> {
+    let mut area = vec![0; LENGTH];
+    for (place, (code, &borrower)) in loans.iter().enumerate() {
+        bytes_of(&mut area, place).copy_from_slice(&place_of(code, borrower));
+    }
+    counts::put(&mut area);
+    put_last(&mut area, last);
+    area
+}
+
+/// The loans of an area, which is mostly a register.
+pub fn loans_in(area: &[u8]) -> Loans {
+    let used = places(area).chunks_exact(PLACE).filter(|place| place[0] != 0);
+    let borrower = |place: &[u8]| place[BORROWER..].iter().fold(0, |number, &byte| number << 8 | u32::from(byte));
+    used.map(|place| (code_in(place).to_vec(), borrower(place))).collect()
 }
 
 /// A code that is out, the first and the last of them more often; or one that is mostly not, the least and the greatest of

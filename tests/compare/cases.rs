@@ -1,7 +1,7 @@
 //! One random request for each call.
 
 use crate::random::Random;
-use crate::{areas, codes, records, texts};
+use crate::{areas, codes, promotions, records, texts};
 use harness::call::{Call, Request};
 use harness::expected;
 
@@ -28,6 +28,7 @@ pub fn request(random: &mut Random, call: Call) -> Request {
         Call::Split => request.first = composite_bytes(random),
         Call::Issue | Call::TakeBack | Call::Ask | Call::Replay | Call::Counts => return areas::request(random, call),
         Call::LogIssue | Call::LogReturn => return records::append(random, call),
+        Call::Promote => return promotions::request(random),
     }
     request.area = area(random, &request);
     request

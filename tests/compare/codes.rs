@@ -256,6 +256,23 @@ pub fn different(random: &mut Random, count: usize) -> Vec<Vec<u8>> {
     codes
 }
 
+/// So many composites of 64-bit units, no two alike; many share most with another.
+pub fn different_composites(random: &mut Random, count: usize) -> Vec<Vec<u8>> {
+    let mut codes: Vec<Vec<u8>> = Vec::new();
+    while codes.len() < count {
+        let mut code = composite(random);
+        if let Some(other) = codes.last().filter(|_| random.percent(40)) {
+            code = other.clone();
+            let at = random.pick(&[code.len() - 1, 2]);
+            code[at] ^= 1 << random.below(8);
+        }
+        if code[..2] != [0x57, 0] && !codes.contains(&code) {
+            codes.push(code);
+        }
+    }
+    codes
+}
+
 /// So many codes with one header, no two alike.
 pub fn with_one_header(random: &mut Random, count: usize) -> Vec<Vec<u8>> {
     let code = if random.percent(30) { composite(random) } else { unit(random) };

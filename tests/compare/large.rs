@@ -16,7 +16,7 @@ fn list(random: &mut Random, last: Vec<u8>) -> Vec<u8> {
 }
 
 /// How many requests there are.
-pub const COUNT: u64 = 37;
+pub const COUNT: u64 = 41;
 
 pub fn requests(random: &mut Random) -> Vec<Request> {
     let mut requests = Vec::new();
@@ -72,6 +72,7 @@ fn on_log(random: &mut Random) -> Vec<Request> {
     let logs = [long, vec![0; MEBIBYTE], longest.repeat(16)];
     let mut requests: Vec<Request> = logs.into_iter().map(|log| on_register(Call::Replay, log, register::LENGTH)).collect();
     requests.push(skipping);
+    requests.extend(promotions(&code));
     requests.push(on_register(Call::Replay, pair, MEBIBYTE));
     for call in [Call::LogIssue, Call::LogReturn] {
         let log = Request { second: vec![0; MEBIBYTE], record_number: 1, ..Request::new(call) };
@@ -80,6 +81,16 @@ fn on_log(random: &mut Random) -> Vec<Request> {
         requests.push(append(vec![0; MEBIBYTE], 0));
     }
     requests
+}
+
+/// Promotions with a log, a replica or a work area of a mebibyte; and a yes to some thousand records, which leave no code out.
+fn promotions(code: &[u8]) -> Vec<Request> {
+    let promote = |log: &[u8], replica, area| Request { area, ..on_register(Call::Promote, log.to_vec(), replica) };
+    let (pair, records) = (comes_and_goes(code, 2), 3000);
+    let mut agrees = promote(&comes_and_goes(code, records), register::LENGTH, LONGEST);
+    areas::put_last(&mut agrees.second, records);
+    let no_log = promote(&vec![0; MEBIBYTE], register::LENGTH, register::LENGTH);
+    vec![agrees, no_log, promote(&pair, MEBIBYTE, MEBIBYTE), promote(&pair, register::LENGTH, MEBIBYTE)]
 }
 
 /// A call on an area of zeros.

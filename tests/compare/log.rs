@@ -72,7 +72,7 @@ impl Known {
             (0, End::Ran, 0)
         };
         let values = values([end as u64, offset as u64]);
-        Response { number, values, written: self.registers[applied].clone() }
+        Response { number, values, written: self.registers[applied].clone(), ..Response::default() }
     }
 }
 

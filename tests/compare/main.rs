@@ -5,11 +5,14 @@ mod cases;
 mod codes;
 mod counts;
 mod days;
+mod drills;
 mod faults;
 mod large;
 mod lines;
 mod log;
 mod numbered;
+mod pairs;
+mod promotions;
 mod random;
 mod records;
 mod register;
@@ -33,7 +36,8 @@ const USAGE: &str = "usage: compare [--seed N] [--cases N] [--lines PROGRAM] [--
   --seed N          the seed of the cases (24138)
   --cases N         how many cases in all (1000000); those on a register or a log come on top
   --lines PROGRAM   the line program; without it no lines are compared
-  --only CALL CASE  one case of one call, or of large, register, days, log or lines, counted from 0
+  --only CALL CASE  one case of one call, or of large, register, days, log, pairs, drills or lines, counted
+                    from 0
   --memcheck        areas are heap blocks of just their length, for a run by tests/memcheck";
 
 /// A call with so many differences is left there.
@@ -52,6 +56,7 @@ fn share(call: Call) -> usize {
         Call::HeaderWrite | Call::Base32Read => 4,
         Call::Base32Write => 2,
         Call::Issue | Call::TakeBack | Call::Ask | Call::Replay | Call::Counts => 3,
+        Call::Promote => 4,
         Call::LogIssue | Call::LogReturn => 2,
     }
 }
@@ -109,10 +114,12 @@ fn fault(options: &Options) -> Option<String> {
         "lines" if case >= lines::INPUTS => Some(format!("there are {} inputs of lines, counted from 0", lines::INPUTS)),
         "large" if case >= large::COUNT => Some(format!("there are {} large inputs, counted from 0", large::COUNT)),
         "lines" | "large" => None,
-        "register" | "log" | "days" if case < u64::MAX => None,
+        "register" | "log" | "days" | "pairs" | "drills" if case < u64::MAX => None,
         _ if case == u64::MAX => Some("--only wants a smaller number".to_string()),
         _ if Call::ALL.iter().any(|call| call.name() == name) => None,
-        _ => Some(format!("no call is called '{name}'; calls: {calls}, and large, register, days, log, lines")),
+        _ => {
+            Some(format!("no call is called '{name}'; calls: {calls}, and large, register, days, log, pairs, drills, lines"))
+        }
     }
 }
 
@@ -139,6 +146,12 @@ fn main() -> ExitCode {
     if let Some(range) = range(&options, "days", days::count(options.cases, options.memcheck)) {
         days::check(&mut tally, &mut library, options.seed, range);
     }
+    if let Some(range) = range(&options, "pairs", pairs::count(options.cases, options.memcheck)) {
+        pairs::check(&mut tally, &mut library, options.seed, range);
+    }
+    if let Some(range) = range(&options, "drills", drills::count(options.cases, options.memcheck)) {
+        drills::check(&mut tally, &mut library, options.seed, range);
+    }
     match (range(&options, "lines", lines::INPUTS), &options.lines) {
         (Some(range), Some(program)) => lines::check(&mut tally, program, options.seed, range, &options.again),
         (Some(_), None) if !options.memcheck => println!("missing: the line program was not compared"),
@@ -160,7 +173,8 @@ fn compare(library: &mut Library, seed: u64, call: Call, index: usize, range: Ra
     for number in range {
         let mut random = Random::of_case(seed, index as u64, number);
         let request = cases::request(&mut random, call);
-        match one(library, &Case { of: call.name(), number }, &request, &setting(&mut random)) {
+        let setting = setting_for(&mut random, &request);
+        match one(library, &Case { of: call.name(), number }, &request, &setting) {
             Ok(due) => outcome.seen.count(&request, &due),
             Err(difference) => outcome.differences.push(difference),
         }
@@ -197,6 +211,15 @@ fn setting(random: &mut Random) -> Setting {
     Setting { side, null: random.percent(50), filling: random.bytes(length) }
 }
 
+/// The same, but a work area may hold the replica, as one that was used before may: nothing depends on what it holds.
+fn setting_for(random: &mut Random, request: &Request) -> Setting {
+    let setting = setting(random);
+    match request.call.works() && !request.second.is_empty() && random.percent(30) {
+        true => Setting { filling: request.second.clone(), ..setting },
+        false => setting,
+    }
+}
+
 /// The answer that the reference and the library agree on, or the case with both answers.
 fn one(library: &mut Library, case: &Case, request: &Request, setting: &Setting) -> Result<Response, String> {
     let due = expected::answer(request);
@@ -212,8 +235,8 @@ fn report(tally: &mut Tally, call: Call, outcome: &Outcome) {
         return tally.check(&name, false, format!("{} cases run{}", outcome.cases, outcome.differences.concat()));
     }
     let Outcome { seen, .. } = outcome;
-    let few = [seen.few(call, call.numbers(), wide::kinds(call)), seen.few_on_areas(call)];
-    let few = [few.concat(), seen.few_numbered(numbered::kinds(call))].concat();
+    let few = [seen.few(call, &seen.due_numbers(call), wide::kinds(call)), seen.few_on_areas(call)];
+    let few = [few.concat(), seen.few_numbered(numbered::kinds(call)), seen.few_promotions(call)].concat();
     if !few.is_empty() && outcome.cases > 1 {
         return tally.check(&name, false, format!("the cases hardly reach {}", few.join(", ")));
     }

@@ -138,6 +138,24 @@ pub fn of_code(random: &mut Random, code: &[u8]) -> Vec<u8> {
     respell(random, &base32::encode(&bytes))
 }
 
+/// A composite typed by its units in small letters, in any order, with hyphens between them.
+pub fn as_unit_list(random: &mut Random, code: &[u8]) -> Vec<u8> {
+    let units = composite::split(code, usize::MAX).expect("a composite");
+    let mut texts: Vec<Vec<u8>> = units.chunks(10).map(|unit| base32::encode(unit).to_ascii_lowercase()).collect();
+    random.shuffle(&mut texts);
+    let list = texts.join(&b'-');
+    if random.percent(50) {
+        [&b"iscc:"[..], &list].concat()
+    } else {
+        list
+    }
+}
+
+/// A composite typed as one, in any spelling.
+pub fn as_composite(random: &mut Random, code: &[u8]) -> Vec<u8> {
+    respell(random, &base32::encode(code))
+}
+
 /// A text that intake refuses, each number about as often as any other.
 fn refused(random: &mut Random) -> Vec<u8> {
     let mut run = base32::encode(&codes::unit(random));

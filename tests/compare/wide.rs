@@ -4,7 +4,8 @@ use crate::{areas, records};
 use harness::area::places;
 use harness::call::{Call, Request, Response};
 use reference::log::{End, BORROWER, HEAD, ISSUE, NUMBER};
-use reference::refusal::{ALL_OUT, ALREADY_OUT, NOT_OUT, NOT_RECORD, NOT_REGISTER, NUMBERS_SPENT, NUMBER_GAP};
+use reference::refusal::{ALL_OUT, ALREADY_OUT, AREA_TOO_SHORT, LAST_NUMBERS_DIFFER, LOANS_DIFFER, NOT_OUT, NOT_RECORD};
+use reference::refusal::{NOT_REGISTER, NUMBERS_SPENT, NUMBER_GAP};
 use reference::register::PLACE;
 use reference::{base32, header};
 
@@ -45,6 +46,7 @@ pub fn kinds(call: Call) -> &'static [usize] {
         Call::Intake | Call::Strict | Call::Code | Call::Join => &[ALONE, FOLLOWED, CUT, OTHER_LENGTH, UNITS],
         Call::Issue | Call::TakeBack | Call::Ask => &[ALONE, FOLLOWED, CUT, OTHER_LENGTH, UNITS, IN_PLACE, SPOILT_IN_PLACE],
         Call::Replay => &[ALONE, FOLLOWED, CUT, OTHER_LENGTH, IN_PLACE, SPOILT_IN_PLACE],
+        Call::Promote => &[ALONE, IN_PLACE, SPOILT_IN_PLACE],
         Call::Counts => &[IN_PLACE, SPOILT_IN_PLACE],
         _ => &[ALONE, FOLLOWED, CUT, OTHER_LENGTH],
     }
@@ -73,11 +75,23 @@ fn kind_of_text(text: &[u8]) -> Option<usize> {
     kind_of(&base32::decode(run).ok()?)
 }
 
+/// The offset up to which a replay came, or a promotion's; none where it was not begun.
+fn reached(request: &Request, due: &Response) -> Option<u64> {
+    let [end, offset, ..] = due.values;
+    match (request.call, due.number) {
+        (Call::Promote, NOT_REGISTER | AREA_TOO_SHORT) => None,
+        (Call::Promote, 0 | LOANS_DIFFER | LAST_NUMBERS_DIFFER) => Some(u64::MAX),
+        (Call::Promote, _) => Some(due.values[0]),
+        _ if end == End::NotBegun as u64 => None,
+        _ if end == End::Ran as u64 => Some(u64::MAX),
+        _ => Some(offset),
+    }
+}
+
 /// The code bytes of the records that a replay came to.
 fn replayed<'a>(request: &'a Request, due: &Response) -> Vec<&'a [u8]> {
-    let log = &request.first;
-    let (end, offset) = (due.values[0], due.values[1] as usize);
-    let reached = |start: usize| end == End::Ran as u64 || end != End::NotBegun as u64 && start <= offset;
+    let (log, reached) = (&request.first, reached(request, due));
+    let reached = |start: usize| reached.is_some_and(|offset| start as u64 <= offset);
     let code_at = |start: usize| {
         let length = usize::from(u16::from_be_bytes([log[start + 1], log[start + 2]]));
         let body = log[start + HEAD..].get(..length)?;
@@ -98,7 +112,7 @@ fn asked(request: &Request, due: &Response) -> Vec<Option<usize>> {
         Call::UnitWrite if is_header => vec![kind_of(&[header::encode(request.header), request.second.clone()].concat())],
         Call::UnitWrite => Vec::new(),
         Call::Distance => vec![kind_of(&request.first), kind_of(&request.second)],
-        Call::Replay => replayed(request, due).into_iter().map(kind_of).collect(),
+        Call::Replay | Call::Promote => replayed(request, due).into_iter().map(kind_of).collect(),
         _ => vec![kind_of(&request.first)],
     }
 }
@@ -106,15 +120,15 @@ fn asked(request: &Request, due: &Response) -> Vec<Option<usize>> {
 /// What the places of a register hold, and of an area that is none, where the answer tells which it is.
 fn in_places(request: &Request, due: &Response) -> Vec<Option<usize>> {
     let told = [0, ALREADY_OUT, ALL_OUT, NOT_OUT, NOT_RECORD, NUMBER_GAP, NUMBERS_SPENT];
-    let is_register = told.contains(&due.number);
+    let is_register = told.contains(&due.number) || request.call.works() && due.number != NOT_REGISTER;
     let kind_in = |place: &[u8]| match kind_of(areas::code_in(place))? {
         ALONE if is_register => Some(IN_PLACE),
         FOLLOWED | CUT | OTHER_LENGTH if due.number == NOT_REGISTER => Some(SPOILT_IN_PLACE),
         _ => None,
     };
-    match request.call.reads().1 {
-        Some("area") => places(&request.second).chunks_exact(PLACE).map(kind_in).collect(),
-        _ => Vec::new(),
+    match request.call.reads_register() {
+        true => places(&request.second).chunks_exact(PLACE).map(kind_in).collect(),
+        false => Vec::new(),
     }
 }
 

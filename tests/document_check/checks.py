@@ -121,7 +121,7 @@ def names_under(folder: str, index: Index) -> set[str]:
 
 
 # The crate that a page speaks of if it is not iscc, as docs/TRACE.md says.
-HOMES = {"docs/trace/register.md": "loans", "docs/trace/log.md": "loans"}
+HOMES = {f"docs/trace/{page}.md": "loans" for page in ("register", "log", "promotion")}
 
 
 def check_homes(document: Document, index: Index, tally: Tally) -> None:
@@ -150,6 +150,8 @@ PROMISES = {
     "crates/loans/specs/LogOrder.antt": (r"StopTold\.", 5),
     "crates/loans/specs/Writer.antt": (r"Appended\.", 5),
     "crates/loans/specs/WideLoans.antt": (r"\w+\.", 4),
+    "crates/loans/specs/PromotionPromises.antt": (r"\w+\.", 36),
+    "crates/console/specs/Promotion.antt": (r"ConsolePromotion\.", 7),
 }
 
 
@@ -225,16 +227,23 @@ def check_crates(index: Index, tally: Tally) -> None:
         tally.check(both, f"crates.txt and crates/ do not agree on {crate}")
 
 
+# The specification's section with the table of numbers, and those that concern programs alone.
+NUMBERS = "Numbers of refusal and their order"
+FOR_PROGRAMS = range(15, 20)
+
+
 def check_readme(document: Document, tally: Tally) -> None:
-    """The toolchain is that of the gate whose times docs/BENCHMARKS.md has, and the clerk's table has each number once."""
+    """The toolchain is that of the gate whose times docs/BENCHMARKS.md has, and the clerk's tables have each number once."""
     used = re.findall(r"cores, with (.+)\.$", read("docs/BENCHMARKS.md"), re.M)
     told = [line.strip() for _, line in document.code if line.strip().startswith("rattle-")]
     tally.check(bool(used) and told == used, f"{document.path}: it names {told}, and docs/BENCHMARKS.md {used}")
-    rows = refusal_rows(document)
-    for number in range(1, 15):
+    owed = [number for number in refusal_rows(section(read(SPECIFICATION), NUMBERS)) if number not in FOR_PROGRAMS]
+    tally.check(len(owed) > 23, f"{SPECIFICATION}: its numbers of refusal were not found")
+    rows = refusal_rows("\n".join(document.prose))
+    for number in owed:
         count = rows.count(number)
-        tally.check(count == 1, f"{document.path}: the refusal {number} has {count} rows in the table")
+        tally.check(count == 1, f"{document.path}: the refusal {number} has {count} rows in the tables")
 
 
-def refusal_rows(document: Document) -> list[int]:
-    return [int(row) for line in document.prose for row in re.findall(r"^\| (\d+) \|", line)]
+def refusal_rows(text: str) -> list[int]:
+    return [int(row) for row in re.findall(r"^\| (\d+) \|", text, re.M)]

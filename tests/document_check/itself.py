@@ -107,4 +107,4 @@ def check_lists(index: Index, tally: Tally) -> None:
     tally.check(fields == {f"Sound.{name}" for name in ("valid", "back", "good", "again")}, "tests/documents: fields of a file")
     comment = '-- "two\n-- words", then\ncode "no"\n-- "and more"'
     tally.check(list(passages(comment)) == [(1, "two words"), (4, "and more")], "tests/documents: what is quoted")
-    tally.check(refusal_rows(page("| 1 | a |\n| 12 | b |\n| no | c |")) == [1, 12], "tests/documents: rows of refusals")
+    tally.check(refusal_rows("| 1 | a |\n| 12 | b |\n| no | c |") == [1, 12], "tests/documents: rows of refusals")

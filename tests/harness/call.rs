@@ -1,6 +1,7 @@
 //! A public call with its arguments, and what it answers.
 
 use crate::{area, hex};
+use reference::refusal::{AREA_TOO_SHORT, NOT_REGISTER};
 use std::fmt;
 
 #[derive(Clone, Copy, Debug, PartialEq, Eq)]
@@ -25,10 +26,11 @@ pub enum Call {
     LogReturn,
     Replay,
     Counts,
+    Promote,
 }
 
 impl Call {
-    pub const ALL: [Call; 20] = [
+    pub const ALL: [Call; 21] = [
         Call::Intake,
         Call::Strict,
         Call::Code,
@@ -49,6 +51,7 @@ impl Call {
         Call::LogReturn,
         Call::Replay,
         Call::Counts,
+        Call::Promote,
     ];
 
     /// The calls on the loans register with a typed text.
@@ -79,6 +82,7 @@ impl Call {
             Call::LogReturn => "log_return",
             Call::Replay => "replay",
             Call::Counts => "counts",
+            Call::Promote => "promote",
         }
     }
 
@@ -95,7 +99,13 @@ impl Call {
             Call::LogIssue | Call::LogReturn => (Some("code"), Some("log")),
             Call::Replay => (Some("log"), Some("area")),
             Call::Counts => (None, Some("area")),
+            Call::Promote => (Some("log"), Some("replica")),
         }
+    }
+
+    /// Whether the second thing that the call reads is a register.
+    pub fn reads_register(self) -> bool {
+        matches!(self.reads().1, Some("area" | "replica"))
     }
 
     /// Whether the call writes to the start of an output area.
@@ -120,9 +130,15 @@ impl Call {
         matches!(self, Call::Issue | Call::LogIssue)
     }
 
+    /// Whether the call leaves a register in its output area, with most refusals too: the work area.
+    pub fn works(self) -> bool {
+        self == Call::Promote
+    }
+
     /// Whether the call belongs to the register or the log, whose vectors are sequences.
     pub fn in_sequences(self) -> bool {
-        Call::REGISTER.contains(&self) || Call::LOG.contains(&self) || self == Call::Counts
+        let others = [Call::Counts, Call::Promote];
+        Call::REGISTER.contains(&self) || Call::LOG.contains(&self) || others.contains(&self)
     }
 
     /// Every number that the specification lets the call answer, success first.
@@ -147,6 +163,7 @@ impl Call {
             Call::LogIssue | Call::LogReturn => &[0, 15, 24],
             Call::Replay => &[0, 20, 21, 22, 23, 24, 25],
             Call::Counts => &[0, 23],
+            Call::Promote => &[0, 15, 20, 21, 22, 23, 24, 25, 27, 36, 37],
         }
     }
 }
@@ -157,7 +174,8 @@ pub struct Request {
     pub call: Call,
     /// The text, the bytes or the log to read.
     pub first: Vec<u8>,
-    /// The second unit of a distance, the body area of the unit writer, or the register or the writer's log before the call.
+    /// The second unit of a distance, the body area of the unit writer, the register or the writer's log before the call, or
+    /// the replica.
     pub second: Vec<u8>,
     /// Main type, subtype, version and length number of a writer.
     pub header: [u32; 4],
@@ -167,7 +185,7 @@ pub struct Request {
     pub record_number: u32,
     /// Where in the log a record is to be written.
     pub position: usize,
-    /// The length of the output area.
+    /// The length of the output area or of the work area.
     pub area: usize,
 }
 
@@ -192,7 +210,7 @@ impl fmt::Display for Request {
     fn fmt(&self, f: &mut fmt::Formatter<'_>) -> fmt::Result {
         f.write_str(self.call.name())?;
         if self.call.writes() {
-            write!(f, " area={}", self.area)?;
+            write!(f, " {}={}", if self.call.works() { "work" } else { "area" }, self.area)?;
         }
         if matches!(self.call, Call::HeaderWrite | Call::UnitWrite) {
             let [main_type, subtype, version, length] = self.header;
@@ -207,7 +225,7 @@ impl fmt::Display for Request {
         let (first, second) = self.call.reads();
         for (name, bytes) in [(first, &self.first), (second, &self.second)] {
             match name {
-                Some("area") => write!(f, " area={}", area::shown(bytes))?,
+                Some(name @ ("area" | "replica")) => write!(f, " {name}={}", area::shown(bytes))?,
                 Some(name) => write!(f, " {name}={}", hex::shown(bytes))?,
                 None => (),
             }
@@ -232,12 +250,18 @@ pub fn values<const OWN: usize>(own: [u64; OWN]) -> Values {
     all
 }
 
-/// The number, the other numbers of the answer in the order of their C struct (a float by its bits), and the written bytes:
-/// of a register or a log all its bytes, changed or not.
+/// Whether a promotion with this number leaves the work area as it was.
+pub fn keeps_work(number: u32) -> bool {
+    matches!(number, NOT_REGISTER | AREA_TOO_SHORT)
+}
+
+/// The number, the other numbers of the answer in the order of their C struct (a float by its bits), its code with all that it
+/// is filled up with, and the written bytes: of a register or a log all its bytes, changed or not.
 #[derive(Clone, Debug, Default, PartialEq, Eq)]
 pub struct Response {
     pub number: u32,
     pub values: Values,
+    pub code: Vec<u8>,
     pub written: Vec<u8>,
 }
 
@@ -252,7 +276,12 @@ impl Response {
 
     /// The answer of a call that only tells numbers.
     pub fn told<const OWN: usize>(number: u32, own: [u64; OWN]) -> Response {
-        Response { number, values: values(own), written: Vec::new() }
+        Response { number, values: values(own), ..Response::default() }
+    }
+
+    /// What a promotion tells, and the register that it leaves in the work area: none where the area keeps its bytes.
+    pub fn judged(number: u32, offset: usize, code_length: usize, code: Vec<u8>, written: Vec<u8>) -> Response {
+        Response { number, values: values([offset as u64, code_length as u64]), code, written }
     }
 
     /// The call's answer by name, as the vectors have it; the number comes first.
@@ -262,6 +291,7 @@ impl Response {
             Call::Issue | Call::TakeBack => &["record_number"],
             Call::Ask => &["borrower", "looks"],
             Call::Replay => &["end", "offset"],
+            Call::Promote => &["offset", "code_length"],
             Call::Counts => &COUNTED,
             Call::Distance => &["d", "n", "ratio"],
             Call::HeaderRead | Call::UnitRead => &["main_type", "subtype", "version", "length", "used"],
@@ -271,7 +301,9 @@ impl Response {
         for (&name, value) in names.iter().zip(self.values) {
             fields.push((name, if name == "ratio" { format!("{value:08x}") } else { value.to_string() }));
         }
-        if call.writes() {
+        if call.works() {
+            fields.extend([("code", hex::encode(&self.code)), ("work", area::hash(&self.written))]);
+        } else if call.writes() {
             fields.push(("written", hex::shown(&self.written)));
         }
         if call.changes() {

@@ -1,10 +1,12 @@
 //! The reference's answer to a request.
 
-use crate::call::{values, Call, Request, Response};
+use crate::call::{keeps_work, values, Call, Request, Response};
+use reference::doors::LONGEST_CODE;
 use reference::header::Header;
 use reference::log::Replayed;
-use reference::register::{Changed, Counts, Held};
-use reference::{base32, composite, distance, doors, header, log, register, unit, Answer};
+use reference::promotion::Verdict;
+use reference::register::{Changed, Counts, Held, LENGTH};
+use reference::{base32, composite, distance, doors, header, log, promotion, register, unit, Answer};
 
 fn written(answer: Answer<Vec<u8>>) -> Response {
     answer.map_or_else(Response::refused, Response::written)
@@ -32,7 +34,7 @@ fn changed(answer: Answer<Changed>, before: &[u8]) -> Response {
     match answer {
         Err(number) => Response { number, written: before.to_vec(), ..Response::default() },
         Ok(Changed { record_number, area }) => {
-            Response { number: 0, values: values([u64::from(record_number)]), written: area }
+            Response { values: values([u64::from(record_number)]), written: area, ..Response::default() }
         }
     }
 }
@@ -45,12 +47,22 @@ fn appended(answer: Answer<Vec<u8>>, before: &[u8], position: usize) -> Response
         record.len()
     });
     let (number, length) = answer.map_or_else(|number| (number, 0), |length| (0, length as u64));
-    Response { number, values: values([length]), written: log }
+    Response { number, values: values([length]), written: log, ..Response::default() }
 }
 
 fn replayed(answer: Replayed) -> Response {
     let values = values([answer.end as u64, answer.offset as u64]);
-    Response { number: answer.number, values, written: answer.area }
+    Response { number: answer.number, values, written: answer.area, ..Response::default() }
+}
+
+/// The code filled up with zeros, and of the work area what was written: the bytes behind it are none of the answer's.
+fn judged(answer: (Verdict, Vec<u8>), before: usize) -> Response {
+    let (Verdict { number, offset, code }, mut work) = answer;
+    assert_eq!(work.len(), before, "the work area keeps its length");
+    work.truncate(if keeps_work(number) { 0 } else { LENGTH });
+    let code_length = code.len();
+    let filled = [code, vec![0; LONGEST_CODE - code_length]].concat();
+    Response::judged(number, offset, code_length, filled, work)
 }
 
 fn held(answer: Held) -> Response {
@@ -84,5 +96,6 @@ pub fn answer(request: &Request) -> Response {
         Call::LogReturn => appended(log::take_back(*record_number, first, second.len(), *position), second, *position),
         Call::Replay => replayed(log::replay(first, second)),
         Call::Counts => counted(register::counts(second)),
+        Call::Promote => judged(promotion::promote(first, second, &vec![0; *area]), *area),
     }
 }

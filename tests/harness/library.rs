@@ -2,11 +2,13 @@
 //! looked at.
 
 use crate::area;
-use crate::call::{Call, Fields, Request, Response};
+use crate::call::{keeps_work, Call, Fields, Request, Response};
 use crate::fence::{Fence, Side};
 use crate::memcheck;
 use crate::room::Room;
 use crate::told::Difference;
+use reference::doors::LONGEST_CODE;
+use reference::register::LENGTH;
 use std::fmt;
 use std::sync::atomic::{AtomicPtr, Ordering};
 
@@ -67,6 +69,14 @@ struct ReplayAnswer {
     offset: usize,
 }
 
+#[repr(C)]
+struct Verdict {
+    number: u32,
+    offset: usize,
+    code_length: usize,
+    code: [u8; LONGEST_CODE],
+}
+
 type Writer = unsafe extern "C" fn(*const u8, usize, *mut u8, usize) -> Written;
 type Reader = unsafe extern "C" fn(*const u8, usize) -> HeaderAnswer;
 
@@ -100,6 +110,14 @@ extern "C" {
         code_len: usize,
     ) -> Written;
     fn loans_replay(log: *const u8, log_len: usize, area: *mut u8, area_len: usize) -> ReplayAnswer;
+    fn loans_promote(
+        log: *const u8,
+        log_len: usize,
+        replica: *const u8,
+        replica_len: usize,
+        work: *mut u8,
+        work_len: usize,
+    ) -> Verdict;
     fn probe_base32_read(text: *const u8, text_len: usize, out: *mut u8, out_len: usize) -> Written;
     fn probe_base32_write(bytes: *const u8, bytes_len: usize, out: *mut u8, out_len: usize) -> Written;
     fn probe_header_read(bytes: *const u8, bytes_len: usize) -> HeaderAnswer;
@@ -222,7 +240,7 @@ impl Library {
         }
         let found = answer.response.fields(request.call);
         let (after, written) = (&due.written, &answer.response.written);
-        let part = || area::part_difference(after, written).filter(|_| request.call.changes());
+        let part = || area::part_difference(after, written).filter(|_| request.call.changes() || request.call.works());
         let byte = || area::byte_difference(after, written).filter(|_| request.call.appends());
         let fault = answer.fault.or_else(part).or_else(byte);
         Some(self.difference(case, request, (due.fields(request.call), found), fault))
@@ -280,6 +298,7 @@ impl Library {
     fn look(&mut self, request: &Request, before: &[u8], response: &mut Response) -> Option<String> {
         let (from, length) = match request.call {
             call if call.changes() => (0, before.len()),
+            call if call.works() => (0, if keeps_work(response.number) { 0 } else { LENGTH }),
             call if call.writes() && response.number == 0 => (0, response.values[0] as usize),
             call if call.appends() && response.number == 0 => (request.position, response.values[0] as usize),
             _ => (0, 0),
@@ -333,6 +352,7 @@ unsafe fn enter(request: &Request, first: *const u8, second: *const u8, out: *mu
         Call::LogReturn => written(loans_log_return(out, second_len, position, record_number, first, first_len)),
         Call::Replay => replayed(loans_replay(first, first_len, out, second_len)),
         Call::Counts => counted(loans_counts(second, second_len)),
+        Call::Promote => judged(loans_promote(first, first_len, second, second_len, out, area)),
     }
 }
 
@@ -356,6 +376,10 @@ fn held(answer: Holder) -> Response {
 
 fn replayed(answer: ReplayAnswer) -> Response {
     Response::told(answer.number, [u64::from(answer.end), answer.offset as u64])
+}
+
+fn judged(answer: Verdict) -> Response {
+    Response::judged(answer.number, answer.offset, answer.code_length, answer.code.to_vec(), Vec::new())
 }
 
 fn counted(answer: Counted) -> Response {

@@ -1,25 +1,32 @@
-//! The vectors' sequences: steps on one register and one log in their order, with the answers that are due.
+//! The vectors' sequences: steps on one register, one log and one work area in their order, with the answers that are due.
 
-use crate::area;
-use crate::call::{Call, Fields, Request, Response};
+use crate::call::{values, Call, Fields, Request, Response};
 use crate::table::Columns;
+use crate::{area, hex};
 use reference::log::End;
+use reference::refusal::{LAST_NUMBERS_DIFFER, LOANS_DIFFER, LOG_TORN};
 use reference::register::LENGTH;
 
 /// The files of the sequences.
 pub const REGISTER: &str = "register.txt";
 pub const LOG: &str = "log.txt";
 pub const REPLAY: &str = "replay.txt";
-pub const FILES: [&str; 3] = [REGISTER, LOG, REPLAY];
+pub const PROMOTE: &str = "promote.txt";
+pub const FILES: [&str; 4] = [REGISTER, LOG, REPLAY, PROMOTE];
 
 /// What a log's area holds before anything is written.
 const UNWRITTEN: u8 = 0xee;
 
+/// What a work area holds before a promotion.
+const UNWORKED: u8 = 0x5a;
+
 /// What the steps of a sequence work on.
 #[derive(Clone, Default)]
 pub struct Held {
-    /// The register.
+    /// The register, which is the replica of a promotion.
     pub area: Vec<u8>,
+    /// The register that a promotion left in the work area, the last call alone; none where the area kept its bytes.
+    pub work: Option<Vec<u8>>,
     pub log: Vec<u8>,
     /// Where the writer goes on in the log.
     pub position: usize,
@@ -65,6 +72,11 @@ impl Asked {
         format!("{step} {}", if torn { "torn" } else { &self.due[0].1 })
     }
 
+    /// The length of a promotion's work area.
+    pub fn work_length(&self) -> usize {
+        self.request.area
+    }
+
     /// The looks that are due to a question.
     pub fn looks(&self) -> Option<u32> {
         let looks = self.due.iter().find(|field| field.0 == "looks")?;
@@ -77,20 +89,51 @@ impl Asked {
         if self.call() == Call::Replay {
             fields.extend([("outcome", outcome(response)), ("place", response.values[1].to_string())]);
         }
+        if self.call() == Call::Promote {
+            return vec![
+                ("number", response.number.to_string()),
+                ("place", response.values[0].to_string()),
+                ("code", told_code(response)),
+                ("work", self.work_hash(&response.written)),
+            ];
+        }
         fields.push(("told", "0".to_string()));
         let value = |name| fields.iter().find(|field| field.0 == name).expect("a column of the answer").1.clone();
         self.due.iter().map(|&(name, _)| (name, value(name))).collect()
     }
 
+    /// The hash of the work area behind a promotion that wrote these bytes. The library's call is made on other fillings too,
+    /// and every byte that is not written is seen to be as it was: for the hash it is what the vectors have there.
+    fn work_hash(&self, written: &[u8]) -> String {
+        let mut work = written.to_vec();
+        work.resize(self.request.area.max(written.len()), UNWORKED);
+        area::hash(&work)
+    }
+
     /// What the question for the counts has to answer on the area that the call left: 23 where the call did, and else the
-    /// numbers that stand there. Other refusals do not tell which it is.
+    /// numbers that stand there. Other refusals do not tell which it is, but for a promotion's.
     pub fn counts(&self, area: &[u8]) -> Option<Response> {
         match self.due[0].1.as_str() {
-            _ if self.call().reads().1 != Some("area") => None,
+            _ if !self.call().reads_register() => None,
             "23" => Some(Response::refused(23)),
             "0" | "20" | "21" | "22" | "24" | "25" | "26" => Some(Response::told(0, area::numbers(area))),
+            _ if self.call() == Call::Promote => Some(Response::told(0, area::numbers(area))),
             _ => None,
         }
+    }
+
+    /// What a replay of the promotion's log has to answer on an empty register: the promotion's own number, or the end or the
+    /// tear that it tells; and to leave: what it left in the work area.
+    pub fn replay(&self, held: &Held) -> Option<(Request, Response)> {
+        let (first, written) = (self.request.first.clone(), held.work.clone()?);
+        let request = Request { first, second: vec![0; LENGTH], ..Request::new(Call::Replay) };
+        let (number, offset) = (self.due[0].1.parse().ok()?, self.due[1].1.parse().ok()?);
+        let (number, end) = match number {
+            0 | LAST_NUMBERS_DIFFER | LOANS_DIFFER => (0, End::Ran),
+            LOG_TORN => (0, End::Torn),
+            _ => (number, End::Stopped),
+        };
+        Some((request, Response { number, values: values([end as u64, offset]), written, ..Response::default() }))
     }
 
     /// What is wrong with the record number of a live issue or return, which the vectors do not tell: an accepted one takes the
@@ -109,9 +152,12 @@ impl Asked {
         (!taken).then(|| format!("record number {told}, but last numbers {numbers:?} before and after"))
     }
 
-    /// Takes over the register or the log as the call has to leave it.
+    /// Takes over the register, the log or the work area as the call has to leave it.
     pub fn take(&self, held: &mut Held, after: Vec<u8>) {
-        if self.call().changes() {
+        held.work = None;
+        if self.call().works() {
+            held.work = Some(after).filter(|after| !after.is_empty());
+        } else if self.call().changes() {
             held.area = after;
         } else if self.call().appends() {
             held.log = after;
@@ -135,6 +181,15 @@ fn outcome(response: &Response) -> String {
         0 if is(End::Torn) => TORN.to_string(),
         20..=22 | 24..=25 if is(End::Stopped) => STOPPED.to_string(),
         _ => format!("(end {end} with number {number})"),
+    }
+}
+
+/// The code of a promotion as the vectors have it; in words where its area is not filled up with zeros.
+fn told_code(response: &Response) -> String {
+    let length = response.values[1] as usize;
+    match response.code.get(length..) {
+        Some(fill) if fill.iter().all(|&byte| byte == 0) => hex::encode(&response.code[..length]),
+        _ => format!("(length {length} in {})", hex::encode(&response.code)),
     }
 }
 
@@ -168,6 +223,7 @@ pub fn parse(line: &str) -> Result<Step, String> {
         "ask" => on_register(Call::Ask, &mut columns),
         "append" => append(&mut columns),
         "replay" => replay(&mut columns),
+        "promote" => promote(&mut columns),
         word => Err(format!("no step is called '{word}'")),
     }?;
     columns.end()?;
@@ -201,6 +257,11 @@ fn append(columns: &mut Columns) -> Result<Step, String> {
 fn replay(columns: &mut Columns) -> Result<Step, String> {
     let request = Request { first: columns.bytes("log")?, ..Request::new(Call::Replay) };
     asked(request, columns, &["outcome", "place", "area"])
+}
+
+fn promote(columns: &mut Columns) -> Result<Step, String> {
+    let (first, area) = (columns.bytes("log")?, columns.number("work length")?);
+    asked(Request { first, area, ..Request::new(Call::Promote) }, columns, &["place", "code", "work"])
 }
 
 /// A call with the number and the other columns that are due.

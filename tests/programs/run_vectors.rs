@@ -21,7 +21,8 @@ const USAGE: &str = "usage: run_vectors FOLDER --lines PROGRAM [--partial] [--on
   FOLDER              the folder of the vectors
   --lines PROGRAM     the line program
   --partial           for trials: tables, lines of tables, sequences, line files or the line program may be missing
-  --only TABLE LINE   one line of a table, or one call of register, log or replay, counted from 1; wants no line program
+  --only TABLE LINE   one line of a table, or one call of register, log, replay or promote, counted from 1; wants no
+                      line program
   --only FILE.in      one line file";
 
 /// The longest area of the vectors is far below this.

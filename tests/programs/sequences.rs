@@ -1,10 +1,10 @@
 //! The vectors' sequences through the linked library: every call on what the one before it left.
 
-use harness::call::{Call, Request};
+use harness::call::{Call, Request, Response};
 use harness::library::{Case, Library, Setting};
 use harness::sequence::{self, Asked, Held, Step};
 use harness::told::{self, Difference, Told};
-use harness::{expected, table};
+use harness::{area, expected, table};
 
 /// What the sequences have at least, as their README says, so that none is lost unseen: lines of each file, lines for success
 /// and for each number of a call's own, questions that look at so many places, and counts that are spoilt.
@@ -14,7 +14,8 @@ fn least_lines(file: &str) -> usize {
     match file {
         sequence::REGISTER => 1839,
         sequence::LOG => 627,
-        _ => 1656,
+        sequence::REPLAY => 1656,
+        _ => 3131,
     }
 }
 
@@ -25,7 +26,16 @@ fn kinds(file: &str) -> &'static [(&'static str, &'static [&'static str])] {
             &[("issue", &["0", "20", "21", "23", "26"]), ("return", &["0", "22", "23", "26"]), ("ask", &["0", "22", "23"])]
         }
         sequence::LOG => &[("append", &["0", "15", "24"])],
-        _ => &[("replay", &["0", "torn", "20", "21", "22", "23", "24", "25"])],
+        sequence::REPLAY => &[("replay", &["0", "torn", "20", "21", "22", "23", "24", "25"])],
+        _ => &[("promote", &["0", "15", "20", "21", "22", "23", "24", "25", "27", "36", "37"])],
+    }
+}
+
+/// How often a kind is to stand there. A log that fills the register is long: one of them is enough for a promotion.
+fn least_of(kind: &str) -> usize {
+    match kind {
+        "promote 21" => 1,
+        _ => LEAST_OF_A_NUMBER,
     }
 }
 
@@ -33,6 +43,14 @@ fn kinds(file: &str) -> &'static [(&'static str, &'static [&'static str])] {
 fn looks(file: &str) -> &'static [(&'static str, &'static [u32])] {
     match file {
         sequence::REGISTER => &[("ask 0", &[1, 2, 3, 4, 5, 6, 7, 8]), ("ask 22", &[1, 2, 3, 4, 5, 6, 8])],
+        _ => &[],
+    }
+}
+
+/// The lengths of work areas that a file has, each with at least so many lines as a number has.
+fn work_areas(file: &str) -> &'static [usize] {
+    match file {
+        sequence::PROMOTE => &[0, 12_307, 12_308, 12_315],
         _ => &[],
     }
 }
@@ -70,7 +88,7 @@ pub fn too_few(file: &str, text: &str) -> Vec<String> {
         for number in numbers {
             let kind = format!("{step} {number}");
             let count = calls.iter().filter(|asked| asked.kind() == kind).count();
-            if count < LEAST_OF_A_NUMBER {
+            if count < least_of(&kind) {
                 few.push(format!("\n {file}: {kind} in {count} lines"));
             }
         }
@@ -83,6 +101,12 @@ pub fn too_few(file: &str, text: &str) -> Vec<String> {
         }
         let missing = all.iter().filter(|looks| !found.contains(looks));
         few.extend(missing.map(|looks| format!("\n {file}: no {kind} with {looks} looks")));
+    }
+    for &length in work_areas(file) {
+        let count = calls.iter().filter(|asked| asked.call() == Call::Promote && asked.work_length() == length).count();
+        if count < LEAST_OF_A_NUMBER {
+            few.push(format!("\n {file}: a work area of {length} bytes in {count} lines"));
+        }
     }
     let kept = (0..spoilt_counts(file)).filter(|&byte| !is_spoilt(&steps, byte));
     few.extend(kept.map(|byte| format!("\n {file}: byte {byte} of the counts is never spoilt")));
@@ -104,7 +128,7 @@ pub fn run(
     library: &mut Library,
     settings: &[Setting],
 ) -> Result<String, String> {
-    let (mut calls, mut counts, mut sequences) = (0, 0, 0);
+    let (mut calls, mut counts, mut replays, mut sequences) = (0, 0, 0, 0);
     let (mut held, mut bad) = (Held::default(), Vec::new());
     for (number, line) in table::lines(text).take_while(|(number, _)| *number <= only.unwrap_or(u64::MAX)) {
         let case = Case { of: file, number };
@@ -114,7 +138,9 @@ pub fn run(
                 calls += usize::from(is_told);
                 let found = differs(library, &case, &asked, &mut held, settings);
                 counts += usize::from(is_told && asked.counts(&held.area).is_some());
+                replays += usize::from(is_told && held.work.is_some());
                 let found = found.or_else(|| counts_differ(library, &case, &asked, &held, settings));
+                let found = found.or_else(|| work_differs(library, &case, &asked, &held, settings));
                 found.map(|difference| (difference.to_string(), difference.brief()))
             }
             step => {
@@ -131,7 +157,8 @@ pub fn run(
         (0, _) => Err("no call".to_string()),
         (_, 0) => {
             let run = format!("{calls} calls in {sequences} sequences, the counts asked behind {counts}");
-            Ok(format!("{run}, each under {} settings", settings.len()))
+            let replayed = if replays == 0 { String::new() } else { format!(", the log replayed behind {replays}") };
+            Ok(format!("{run}{replayed}, each under {} settings", settings.len()))
         }
         (_, count) => Err(format!("{count} lines differ, of {calls} calls{}", told::list(&bad))),
     }
@@ -141,7 +168,10 @@ pub fn run(
 fn differs(library: &mut Library, case: &Case, asked: &Asked, held: &mut Held, settings: &[Setting]) -> Option<Difference> {
     let request = asked.request(held);
     let (mut first, mut found) = (None, None);
-    for setting in settings {
+    // A work area may also hold a register, here the replica: nothing depends on what it holds.
+    let replica = settings.first().filter(|_| asked.call().works() && !held.area.is_empty());
+    let replica = replica.map(|setting| Setting { filling: held.area.clone(), ..setting.clone() });
+    for setting in settings.iter().chain(&replica) {
         let answer = library.answer(case, &request, setting);
         let fields = (asked.due.clone(), asked.fields_of(&answer.response));
         let fault = answer.fault.or_else(|| asked.number_fault(&request.second, &answer.response));
@@ -168,4 +198,14 @@ fn counts_differ(
     let due = asked.counts(&held.area)?;
     let request = Request { second: held.area.clone(), ..Request::new(Call::Counts) };
     settings.iter().find_map(|setting| library.differs(case, &request, &due, setting))
+}
+
+/// The register that a promotion left in the work area is one, by its counts, and the one that a replay of the log leaves.
+fn work_differs(library: &mut Library, case: &Case, asked: &Asked, held: &Held, settings: &[Setting]) -> Option<Difference> {
+    let (replay, due) = asked.replay(held)?;
+    let counts = Request { second: due.written.clone(), ..Request::new(Call::Counts) };
+    let counted = Response::told(0, area::numbers(&due.written));
+    [(counts, counted), (replay, due)]
+        .into_iter()
+        .find_map(|(request, due)| settings.iter().find_map(|setting| library.differs(case, &request, &due, setting)))
 }

@@ -11,6 +11,7 @@ pub mod doors;
 pub mod header;
 pub mod lines;
 pub mod log;
+pub mod promotion;
 pub mod refusal;
 pub mod register;
 pub mod unit;

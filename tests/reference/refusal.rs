@@ -26,3 +26,6 @@ pub const NOT_REGISTER: u32 = 23;
 pub const NOT_RECORD: u32 = 24;
 pub const NUMBER_GAP: u32 = 25;
 pub const NUMBERS_SPENT: u32 = 26;
+pub const LAST_NUMBERS_DIFFER: u32 = 27;
+pub const LOG_TORN: u32 = 36;
+pub const LOANS_DIFFER: u32 = 37;

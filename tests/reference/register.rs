@@ -6,6 +6,7 @@ use crate::refusal::{ALL_OUT, ALREADY_OUT, NOT_OUT, NOT_REGISTER, NUMBERS_SPENT}
 use crate::unit::{self, CONTENT, DATA, ID, INSTANCE, ISCC, META, SEMANTIC};
 use crate::{demand, Answer};
 use std::cmp::Ordering;
+use std::collections::BTreeMap;
 
 /// The bytes of the counts, which stand before the places; the places of a register, and the bytes of each.
 pub const COUNTS: usize = 16;
@@ -48,6 +49,9 @@ pub struct Held {
 
 /// How many codes are out: in all, then for main types 0 to 6.
 pub type Counts = [u32; 8];
+
+/// Who has which code, as a plain map.
+pub type Loans = BTreeMap<Vec<u8>, u32>;
 
 fn zeros(bytes: &[u8]) -> bool {
     bytes.iter().all(|&byte| byte == 0)
@@ -134,6 +138,12 @@ fn area_of(loans: &[Loan], last: u32) -> Vec<u8> {
     area.resize(LAST, 0);
     area.extend(last.to_be_bytes());
     area
+}
+
+/// What a register holds, wherever it stands there, and the number of the last record: 23.
+pub(crate) fn held(area: &[u8]) -> Answer<(Loans, u32)> {
+    let Register { loans, last } = register(area)?;
+    Ok((loans.into_iter().map(|loan| (loan.code, loan.borrower)).collect(), last))
 }
 
 /// The number of the last record: 23.

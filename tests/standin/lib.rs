@@ -2,10 +2,12 @@
 //! reference against the vectors, and, with a slip put into it, to see that the tests catch the slip.
 
 use reference::distance::Distance;
+use reference::doors::LONGEST_CODE;
 use reference::header::Header;
 use reference::log::Replayed;
+use reference::promotion::Verdict;
 use reference::register::{Changed, Held};
-use reference::{base32, composite, distance, doors, header, log, register, unit, Answer};
+use reference::{base32, composite, distance, doors, header, log, promotion, register, unit, Answer};
 
 #[repr(C)]
 pub struct Written {
@@ -64,6 +66,14 @@ pub struct ReplayAnswer {
     number: u32,
     end: u32,
     offset: usize,
+}
+
+#[repr(C)]
+pub struct VerdictAnswer {
+    number: u32,
+    offset: usize,
+    code_length: usize,
+    code: [u8; LONGEST_CODE],
 }
 
 /// A lent area; null stands for an empty one.
@@ -255,4 +265,23 @@ pub unsafe extern "C" fn loans_replay(log: *const u8, log_len: usize, area: *mut
     let Replayed { number, end, offset, area: after } = log::replay(lent(log, log_len), area);
     area.copy_from_slice(&after);
     ReplayAnswer { number, end: end as u32, offset }
+}
+
+/// The work area stays as the checker leaves it, on a refusal too.
+#[no_mangle]
+pub unsafe extern "C" fn loans_promote(
+    log: *const u8,
+    log_len: usize,
+    replica: *const u8,
+    replica_len: usize,
+    work: *mut u8,
+    work_len: usize,
+) -> VerdictAnswer {
+    let work = lent_out(work, work_len);
+    let (verdict, after) = promotion::promote(lent(log, log_len), lent(replica, replica_len), work);
+    work.copy_from_slice(&after);
+    let Verdict { number, offset, code: told } = verdict;
+    let mut code = [0; LONGEST_CODE];
+    code[..told.len()].copy_from_slice(&told);
+    VerdictAnswer { number, offset, code_length: told.len(), code }
 }

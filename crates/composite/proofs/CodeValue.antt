@@ -1,6 +1,6 @@
 -- A code that was written to an area, and the same code by value.
 use Prim.Native.Nat.{ℕ, _≤_, _<_}
-use mathlib.Core.Path.{_≡_, refl, sym, _∙_, ap, ap₂}
+use mathlib.Core.Path.{_≡_, refl, _∙_, ap, ap₂}
 use mathlib.Core.Bool.{true, false}
 use mathlib.Core.List.{List, _++_}
 use native.Mathlib.Omega.{arith}
@@ -10,13 +10,13 @@ use borrow.Author.Tests.{le-leb, lt-leb}
 use Rattle.iscc.specs.Refusals.{Refusal, areaTooShort}
 use Rattle.iscc.specs.Answer.{Answer, accept, refuse, into, areaAfter}
 use Rattle.iscc.specs.Items.{readItems}
-use Rattle.iscc.specs.Representation.{writtenAs, codeAs, codeReadAs}
+use Rattle.iscc.specs.Representation.{writtenAs, codeReadAs}
 use Rattle.iscc.specs.declared.code.Code.{Code}
 use Rattle.iscc.specs.declared.code.CodeRead.{CodeRead}
 use Rattle.iscc.specs.declared.code.CodeAnswer.the-variants as answers
 use Rattle.iscc.specs.declared.written.Written.{Written}
 use Rattle.iscc.specs.declared.written.Written.the-variants as written
-use Rattle.iscc.proofs.Codes.{zero-filled, code-is}
+use Rattle.iscc.proofs.Codes.{code-value}
 use Rattle.units.specs.declared.summary.Summary.{Summary}
 use Rattle.units.specs.Reading.{refusedIndex}
 use Rattle.units.specs.Verdict.{verdictDetail}
@@ -93,10 +93,6 @@ unread-coded bs d q j e = rw (e .0, e .1) (refl, refl)
 
 -- ---- by value: 42 bytes are room for each code
 
--- bytes in front of zeros, and how many they are
-value-is : (out a : List ℕ) (n : ℕ) → a ≡ areaAfter (accept out) (replicate 42 0) → n ≡ length out → record { bytes = a; length = n } ≡ codeAs out
-value-is out a n e l = ap₂ (λ (x : List ℕ) (k : ℕ). record { bytes = x; length = k }) (e ∙ zero-filled 42 out) l ∙ code-is out
-
 module _ (k : ℕ) (w : Coded) (r : CodeRead) where
   pub area-value : (x : Answer (List ℕ)) → ((out : List ℕ) → x ≡ accept out → length out ≤ 42) → (n : ℕ) (a : List ℕ) → w ≡ codedInto 42 k x
       → a ≡ areaAfter (into 42 x) (replicate 42 0) → w ≡ coded.Length n → r ≡ record { answer = answers.Accepted; code = record { bytes = a; length = n } } → r ≡ codeReadAs k x
@@ -105,7 +101,7 @@ module _ (k : ℕ) (w : Coded) (r : CodeRead) where
       let e′ : w ≡ coded.Length (length out) = rw s at e in
       let f′ : a ≡ areaAfter (accept out) (replicate 42 0) = rw s at f in
       let l : n ≡ length out = cc in
-      h ∙ ap (λ (d : Code). record { answer = answers.Accepted; code = d }) (value-is out a n f′ l)
+      h ∙ ap (λ (d : Code). record { answer = answers.Accepted; code = d }) (code-value out a n f′ l)
   area-value (refuse q) m n a e f g h = let o : _≡_ {A = ℕ} 0 1 = cc in absurd (omega arith)
 
   pub none-value : (x : Answer (List ℕ)) → ((out : List ℕ) → x ≡ accept out → length out ≤ 42) → (q : Refusal) (j : ℕ) → w ≡ codedInto 42 k x → w ≡ coded.Refused q j

@@ -15,6 +15,13 @@ use Rattle.log.specs.declared.append.Appended.{Appended}
 use Rattle.log.specs.declared.replay.Replayed.{Replayed}
 use Rattle.log.specs.declared.replay.Replayed.the-variants as ends
 use Rattle.log.specs.Representation.{appendedAs, endAs, replayedAs}
+use Rattle.iscc.specs.Representation.{codeAs}
+use Rattle.loans.specs.Promotion as promotions
+use Rattle.promotion.specs.declared.answer.Promotion.{Promotion}
+use Rattle.promotion.specs.declared.answer.Verdict.{Verdict}
+use Rattle.promotion.specs.declared.answer.Verdict.the-variants as verdicts
+use Rattle.promotion.specs.Representation.{promotionAs, verdictNumber, verdictOffset}
+use Rattle.promotion.proofs.Answers.{all-told}
 use Rattle.door.specs.Representation.{checkedNumber}
 use Rattle.door.specs.declared.strict.Checked.{Checked}
 use Rattle.door.specs.declared.strict.Checked.the-variants.{Accepted, Refused}
@@ -28,7 +35,8 @@ use Rattle.register.specs.declared.answer.Holder.the-variants as holders
 use Rattle.console.specs.declared.lending.ChangeAnswer.{ChangeAnswer}
 use Rattle.console.specs.declared.lending.HolderAnswer.{HolderAnswer}
 use Rattle.console.specs.declared.logging.ReplayAnswer.{ReplayAnswer}
-use Rattle.console.specs.Representation.{changeAnswerFor, changeAnswerAs, holderAnswerAs, movedOn, recordOutcome, endAnswer, replayAnswerAs}
+use Rattle.console.specs.declared.promoting.PromotionAnswer.{PromotionAnswer}
+use Rattle.console.specs.Representation.{promotionAnswerAs, changeAnswerFor, changeAnswerAs, holderAnswerAs, movedOn, recordOutcome, endAnswer, replayAnswerAs}
 
 pub taken : (r : Checked) (x : Answer Meaning) → checkedNumber r ≡ numberOf x → r ≡ Accepted → 0 ≡ numberOf x
 taken r x e f = ap checkedNumber (sym f) ∙ e
@@ -114,3 +122,31 @@ module _ (r : Replayed) (x : Answer (loans.Replayed (List ℕ))) (e : r ≡ repl
 
   pub not-begun : (q : Refusal) → r ≡ ends.Refused q → record { number = q .number; end = 0; offset = 0 } ≡ replayAnswerAs x
   not-begun q f = answer-of _ f
+
+-- ---- a promotion
+
+module _ (p : Promotion) (v : promotions.Verdict) (e : p ≡ promotionAs v) where
+  verdict-of : (w : Verdict) → p .verdict ≡ w
+      → _≡_ {A = PromotionAnswer} (record { number = verdictNumber w; offset = verdictOffset w; «code_length» = p .code .length; code = p .code .bytes }) (promotionAnswerAs v)
+  unfolding codeAs
+  verdict-of w f =
+      let t = all-told v p e in
+      let c = ap (λ (x : Promotion). x .code) e in
+      ap (λ (x : Verdict). record { number = verdictNumber x; offset = verdictOffset x; «code_length» = p .code .length; code = p .code .bytes }) (sym f)
+      ∙ rw (t .0, t .1, c)
+
+  pub is-granted : p .verdict ≡ verdicts.Granted
+      → _≡_ {A = PromotionAnswer} (record { number = 0; offset = 0; «code_length» = p .code .length; code = p .code .bytes }) (promotionAnswerAs v)
+  is-granted f = verdict-of _ f
+
+  pub not-granted : (q : Refusal) → p .verdict ≡ verdicts.Refused q
+      → _≡_ {A = PromotionAnswer} (record { number = q .number; offset = 0; «code_length» = p .code .length; code = p .code .bytes }) (promotionAnswerAs v)
+  not-granted q f = verdict-of _ f
+
+  pub not-granted-at : (q : Refusal) (offset : ℕ) → p .verdict ≡ verdicts.RefusedAt q offset
+      → _≡_ {A = PromotionAnswer} (record { number = q .number; offset = offset; «code_length» = p .code .length; code = p .code .bytes }) (promotionAnswerAs v)
+  not-granted-at q offset f = verdict-of _ f
+
+  pub not-granted-for : (q : Refusal) → p .verdict ≡ verdicts.RefusedFor q
+      → _≡_ {A = PromotionAnswer} (record { number = q .number; offset = 0; «code_length» = p .code .length; code = p .code .bytes }) (promotionAnswerAs v)
+  not-granted-for q f = verdict-of _ f

@@ -3,3 +3,4 @@ pub mod Laws
 pub mod Numbers
 pub mod Demand3
 pub mod Loans
+pub mod Promotion

@@ -22,6 +22,7 @@ use Rattle.loans.specs.PendingLog.{NumberedChange, recordOf, writeRecord, apply
 use Rattle.loans.proofs.Promises.{loans-register}
 use Rattle.loans.proofs.LogPromises.{pending-log}
 use Rattle.loans.proofs.CountPromises.{not-told}
+use Rattle.loans.proofs.PromotionPromises.{may-be-promoted}
 use Rattle.register.specs.Representation.{countsAs}
 use Rattle.console.specs.Representation.{distanceAnswerAs, holderAnswerAs, recordOutcome, endAnswer, replayAnswerAs}
 use Rattle.console.specs.Numbers.{NumberFor, ToldOf, notStopped, ConsoleNumbers}
@@ -112,5 +113,6 @@ console-numbers =
       recordTold = λ n log position. rw (record-number position (writeRecord n log position)) (exact 24 _ (pending-log .writeNumber n log position));
       recordLength = record-length;
       replayTold = λ log area. rw (replay-number (replayLog log area)) (exact 25 _ (replay-numbers log area));
+      promoteTold = λ log replica work. exact 37 _ (may-be-promoted .numbers log replica work);
       distanceTold = λ x y. rw (distance-number (distance x y)) (of-table (distance x y) (distance-numbered x y));
     }

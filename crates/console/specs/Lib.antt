@@ -3,4 +3,5 @@ pub mod Representation
 pub mod Numbers
 pub mod Demand3
 pub mod Loans
+pub mod Promotion
 pub mod Version

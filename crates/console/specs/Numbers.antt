@@ -18,8 +18,10 @@ use Rattle.loans.specs.Fields.{fieldBytes}
 use Rattle.loans.specs.Replay.{Replayed}
 use Rattle.loans.specs.LogOrder.{stopOf}
 use Rattle.loans.specs.PendingLog.{NumberedChange, recordOf, writeRecord, replayLog}
+use Rattle.loans.specs.Promotion.{promotion}
+use Rattle.loans.specs.PromotionOrder.{verdictAnswer}
 use Rattle.register.specs.Representation.{countsAs}
-use Rattle.console.specs.Representation.{distanceAnswerAs, changeAnswerAs, holderAnswerAs, recordOutcome, replayAnswerAs}
+use Rattle.console.specs.Representation.{distanceAnswerAs, changeAnswerAs, holderAnswerAs, recordOutcome, replayAnswerAs, promotionAnswerAs}
 
 -- a number that is 0 exactly where the definition accepts, and else one of the table up to the given one
 pub record NumberFor {A : Type 0} (most : ℕ) (x : Answer A) (number : ℕ) : Type 0 where
@@ -56,3 +58,5 @@ pub record ConsoleNumbers : Type 0 where
       → recordOutcome position (writeRecord n log position) .length ≡ length (fieldBytes (recordOf n))
   -- and a number that is 0 exactly where no record stopped the replay and the area was a register
   pub replayTold : (log area : List ℕ) → NumberFor 25 (notStopped (replayLog log area)) (replayAnswerAs (replayLog log area) .number)
+  -- a promotion's, which has 27, 36 and 37 too, is 0 exactly where it says yes
+  pub promoteTold : (log replica work : List ℕ) → NumberFor 37 (verdictAnswer (promotion log replica work)) (promotionAnswerAs (promotion log replica work) .number)

@@ -1,18 +1,24 @@
 -- The C entries' answers as representations of the definitions' values.
 use Prim.Native.Nat.{ℕ, _-_}
 use mathlib.Core.List.{List}
+use lib.ListN.{length}
 use Rattle.iscc.specs.Answer.{Answer, accept, refuse, numberOf}
+use Rattle.iscc.specs.Lists.{zeroFilled}
 use Rattle.iscc.specs.declared.written.Outcome.{Outcome}
 use Rattle.loans.specs.Contents.{numberTaken}
 use Rattle.loans.specs.Writer.{Written}
 use Rattle.loans.specs.Replay.{ended, torn, stopped, End, Replayed}
+use Rattle.loans.specs.Promotion.{Verdict}
+use Rattle.loans.specs.PromotionOrder.{verdictAnswer}
 use Rattle.distance.specs.declared.answer.Measured.{Measured}
 use Rattle.log.specs.declared.append.Appended.{Appended}
 use Rattle.register.specs.declared.answer.Changed.{Changed}
 use Rattle.register.specs.Representation.{changedNumber, changedRecord}
+use Rattle.promotion.specs.Representation.{offsetTold, codeTold}
 use Rattle.console.specs.declared.lending.ChangeAnswer.{ChangeAnswer}
 use Rattle.console.specs.declared.lending.HolderAnswer.{HolderAnswer}
 use Rattle.console.specs.declared.logging.ReplayAnswer.{ReplayAnswer}
+use Rattle.console.specs.declared.promoting.PromotionAnswer.{PromotionAnswer}
 use Rattle.console.specs.declared.distances.DistanceAnswer.{DistanceAnswer}
 
 abbrev pub distanceAnswerAs : Measured → DistanceAnswer
@@ -48,3 +54,13 @@ endAnswer (stopped q offset) = record { number = q .number; end = 3; offset = of
 abbrev pub replayAnswerAs : Answer (Replayed (List ℕ)) → ReplayAnswer
 replayAnswerAs (accept x) = endAnswer (x .end)
 replayAnswerAs (refuse q) = record { number = q .number; end = 0; offset = 0 }
+
+-- may a replica be promoted: the number, 0 for yes, and an offset or a code where one is told
+abbrev pub promotionAnswerAs : Verdict → PromotionAnswer
+promotionAnswerAs v =
+    record {
+      number = numberOf (verdictAnswer v);
+      offset = offsetTold v;
+      «code_length» = length (codeTold v);
+      code = zeroFilled 42 (codeTold v);
+    }

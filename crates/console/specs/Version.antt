@@ -2,4 +2,4 @@
 use Prim.Native.Nat.{ℕ, _+_, _*_}
 
 abbrev pub version : ℕ
-version = 0 * 65536 + 7 * 256 + 0
+version = 0 * 65536 + 8 * 256 + 0

@@ -5,4 +5,5 @@ pub mod distances;
 pub mod doors;
 pub mod lending;
 pub mod logging;
+pub mod promoting;
 pub mod version;

@@ -1,6 +1,6 @@
 -- A code by value, and the two calls: the code of a text, and the text of a code.
 use Prim.Native.Nat.{ℕ, zero, suc, _-_, _/_, _≤_}
-use mathlib.Core.Path.{_≡_, refl, sym, _∙_, ap, subst}
+use mathlib.Core.Path.{_≡_, refl, sym, _∙_, ap, ap₂, subst}
 use mathlib.Core.Logic.{_↔_}
 use mathlib.Core.List.{List, [], _++_}
 use native.Mathlib.Numerals.{unary-clauses}
@@ -8,7 +8,6 @@ use native.Mathlib.Omega.{arith}
 use lib.ListN.{length, getD, drop, replicate}
 use lib.Dec.{leb}
 use borrow.Author.Tests.{le-leb}
-use Rattle.iscc.specs.Refusals.{Refusal}
 use Rattle.iscc.specs.Answer.{Answer, accept, refuse, Accepted, _>>=_, areaAfter}
 use Rattle.iscc.specs.Lists.{zeroFilled}
 use Rattle.iscc.specs.Digits.{Below}
@@ -17,9 +16,7 @@ use Rattle.iscc.specs.Meaning.{Meaning, Permitted}
 use Rattle.iscc.specs.Item.{Item, itemBytes, itemOf, readOne, meaningOf}
 use Rattle.iscc.specs.Doors.{meaningOfText, textOf, codeBytes, readCode, writeText, intake, strict}
 use Rattle.iscc.specs.Codes.{CodesAndTexts}
-use Rattle.iscc.specs.Representation.{codeAs, codeReadAs}
-use Rattle.iscc.specs.declared.code.Code.{Code}
-use Rattle.iscc.specs.declared.code.CodeAnswer.the-variants as answers
+use Rattle.iscc.specs.Representation.{codeAs}
 use Rattle.iscc.proofs.Answer.{accepted, value-of, passed, answered, accept-inj}
 use Rattle.iscc.proofs.Item.{PermittedItem, length-item, item-most, item-first, item-below}
 use Rattle.iscc.proofs.Meaning.{meaning-back, item-permitted, item-back, meant-item}
@@ -34,21 +31,18 @@ drop-zeros zero n = simp unary-clauses refl
 drop-zeros (suc k) zero = let e : 0 - suc k ≡ 0 = omega arith in rw e
 drop-zeros (suc k) (suc n) = simp unary-clauses (drop-zeros k n)
 
-pub zero-filled : (n : ℕ) (bs : List ℕ) → areaAfter (accept bs) (replicate n 0) ≡ zeroFilled n bs
+zero-filled : (n : ℕ) (bs : List ℕ) → areaAfter (accept bs) (replicate n 0) ≡ zeroFilled n bs
 unfolding zeroFilled
 zero-filled n bs = ap (λ (z : List ℕ). bs ++ z) (drop-zeros (length bs) n)
 
-pub code-is : (bs : List ℕ) → record { bytes = zeroFilled 42 bs; length = length bs } ≡ codeAs bs
+pub code-value : (bs area : List ℕ) (n : ℕ) → area ≡ areaAfter (accept bs) (replicate 42 0) → n ≡ length bs → record { bytes = area; length = n } ≡ codeAs bs
 unfolding codeAs
-code-is bs = refl
+code-value bs area n e l = ap₂ (λ (x : List ℕ) (k : ℕ). record { bytes = x; length = k }) (e ∙ zero-filled 42 bs) l
 
--- of a refusal
-no-code : codeAs [] ≡ record { bytes = replicate 42 0; length = 0 }
+-- no code
+pub no-code : record { bytes = replicate 42 0; length = 0 } ≡ codeAs []
 unfolding codeAs zeroFilled
 no-code = refl
-
-pub refused-code : (q : Refusal) (k : ℕ) → record { answer = answers.Refused q k; code = record { bytes = replicate 42 0; length = 0 } } ≡ codeReadAs k (refuse q)
-refused-code q k = ap (λ (d : Code). record { answer = answers.Refused q k; code = d }) (sym no-code)
 
 -- ---- the code of a text, and the text of a code
 

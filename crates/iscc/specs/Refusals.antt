@@ -115,6 +115,18 @@ numberGap = refusal 25
 abbrev pub numbersSpent : Refusal
 numbersSpent = refusal 26
 
+-- promotion: only the last numbers differ
+abbrev pub lastNumbersDiffer : Refusal
+lastNumbersDiffer = refusal 27
+
+-- promotion: the log is torn
+abbrev pub logTorn : Refusal
+logTorn = refusal 36
+
+-- promotion: a code is held by one register only, or with another borrower
+abbrev pub loansDiffer : Refusal
+loansDiffer = refusal 37
+
 -- the table, in its order
 abbrev pub refusals : List Refusal
 refusals =
@@ -144,4 +156,7 @@ refusals =
     ∷ notRecord
     ∷ numberGap
     ∷ numbersSpent
+    ∷ lastNumbersDiffer
+    ∷ logTorn
+    ∷ loansDiffer
     ∷ []

@@ -1,7 +1,8 @@
 // A code by value: what reads or makes a code answers one, and no caller lends an area for it.
 ghost use mathlib.Core.Path.{_≡_};
+ghost use mathlib.Core.List.{[]};
 ghost use Rattle.iscc.specs.Answer.{refuse};
-ghost use Rattle.iscc.specs.Representation.{codeReadAs};
+ghost use Rattle.iscc.specs.Representation.{codeAs, codeReadAs};
 use crate::refusal::Refusal;
 
 // The longest code, a composite of all five units, in bytes.
@@ -25,14 +26,21 @@ pub struct CodeRead {
     pub code: Code,
 }
 
+// What stands beside an answer that has no code.
+pub fn none() -> Code
+    ensures { λ r. ⌜ r ≡ codeAs [] ⌝ }
+{
+    Code {
+        bytes: [0; 42],
+        length: 0,
+    }
+}
+
 // No code, but a refusal and its detail.
 pub fn refused(q: Refusal, detail: usize) -> CodeRead
     ensures { λ r. ⌜ r ≡ codeReadAs detail (refuse q) ⌝ }
 {
-    let code = Code {
-        bytes: [0; 42],
-        length: 0,
-    };
+    let code = none();
     CodeRead {
         answer: CodeAnswer::Refused(q, detail),
         code,

@@ -86,8 +86,17 @@ impl Refusal {
     // The last record number is taken.
     pub const NUMBERS_SPENT: Refusal = Refusal { number: 26 };
 
+    // Promotion: only the last numbers differ.
+    pub const LAST_NUMBERS_DIFFER: Refusal = Refusal { number: 27 };
+
+    // Promotion: the log is torn.
+    pub const LOG_TORN: Refusal = Refusal { number: 36 };
+
+    // Promotion: a code is held by one register only, or with another borrower.
+    pub const LOANS_DIFFER: Refusal = Refusal { number: 37 };
+
     // Every refusal in the order of the table: ties the names above to those of the definitions.
-    pub fn all() -> [Refusal; 26]
+    pub fn all() -> [Refusal; 29]
         ensures { λ r. ⌜ r ≡ refusals ⌝ }
     {
         [
@@ -117,6 +126,9 @@ impl Refusal {
             Refusal::NOT_RECORD,
             Refusal::NUMBER_GAP,
             Refusal::NUMBERS_SPENT,
+            Refusal::LAST_NUMBERS_DIFFER,
+            Refusal::LOG_TORN,
+            Refusal::LOANS_DIFFER,
         ]
     }
 }

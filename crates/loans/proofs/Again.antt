@@ -22,13 +22,12 @@ use Rattle.loans.specs.Replay.{ended, Replayed, goOn, replayAll, replayF
 use Rattle.loans.specs.Tears.{endOfRecord, endingBy}
 use Rattle.loans.specs.Numbered.{Contents}
 use Rattle.loans.specs.Contents.{contentsOf, isRegister, bytesOf, changedLoans, register}
-use Rattle.loans.specs.PendingLog.{numberIn, isNumbered, numberedOf, applyRecord, applyToMap, replayLog}
+use Rattle.loans.specs.PendingLog.{numberIn, isNumbered, numberedOf, applyRecord, replayLog}
 use Rattle.loans.specs.Good.{GoodContents}
-use Rattle.loans.proofs.Fields.{bytes-in}
 use Rattle.loans.proofs.Tears.{cut-anywhere}
-use Rattle.loans.proofs.Replay.{onFrom, replay-tear, replay-more, ended-only, replay-alike}
-use Rattle.loans.proofs.Contents.{HeldContents, held-good, held-self, register-sound}
-use Rattle.loans.proofs.PendingLog.{is-record, skip-in-turn, skipped, next, took, record-both}
+use Rattle.loans.proofs.Replay.{onFrom, replay-tear, replay-more, ended-only}
+use Rattle.loans.proofs.Contents.{register-sound}
+use Rattle.loans.proofs.PendingLog.{is-record, skip-in-turn, skipped, next, took, replay-good}
 
 -- ---- one record
 
@@ -133,9 +132,7 @@ module _ (log area : List ℕ) (x : Replayed (List ℕ)) (k : Below 256 log) (l 
   ran = let p = passed (isRegister area) notRegister _ e in (p .0, accept-inj (p .1))
 
   left-good : GoodContents left
-  left-good =
-      let h : HeldContents (contentsOf area) (contentsOf area) = held-self (contentsOf area) (register-sound .good area l (ran .0)) in
-      held-good _ _ (replay-alike applyRecord applyToMap HeldContents record-both (recordsFrom 0 log .whole) (recordsFrom 0 log .tear) _ _ (bytes-in 0 log k) h .state)
+  left-good = replay-good log (contentsOf area) k (register-sound .good area l (ran .0))
 
   left-bytes : bytesOf left ≡ x .state
   left-bytes = ap (λ (y : Replayed (List ℕ)). y .state) (ran .1)

@@ -56,6 +56,28 @@ module _ {S : Type 0} (loans : S → List Loan) (put : Loan → S → S) (taken 
       let n : length (loans s′) ≡ length (loans (taken c s)) = ap (λ (x : S). length (loans x)) (sym (accept-inj (p .1))) in
       omega (arith, n, taken-size c s (p .0))
 
+-- ---- records from the left
+
+-- What each record makes of a state by the changes that it stands for, all that are applied make by theirs: whether they run to their
+-- end or one stops them.
+module _ {S : Type 0} (r : Register S) (Good : S → Type 0) (apply : Field → S → Answer S) (takes : Field → S → List Change)
+    (record-good : (f : Field) (s s′ : S) → Below 256 (f .body) → Good s → apply f s ≡ accept s′ → Good s′)
+    (Rel : S → S → List Change → Type 0) (same : (s : S) → Rel s s [])
+    (more : (s t u : S) (xs ys : List Change) → Rel s t xs → Rel t u ys → Rel s u (xs ++ ys))
+    (one : (f : Field) (s s′ : S) → Good s → apply f s ≡ accept s′ → Rel s s′ (takes f s)) where
+  pub replay-walk : (es : List Record) (tear : Option ℕ) (s : S) → BytesIn es → Good s
+      → let s′ = replayAll apply es tear s .state in Good s′ × Rel s s′ (appliedIn r apply takes es s)
+  unfolding replayAll appliedIn
+  replay-walk [] tear s k h = (h, same s)
+  replay-walk (e ∷ es) tear s k h = go (apply (e .field) s) refl (λ s′ g. replay-walk es tear s′ (k .1) g)
+    where
+      go : (x : Answer S) → apply (e .field) s ≡ x
+          → ((y : S) → Good y → Good (replayAll apply es tear y .state) × Rel y (replayAll apply es tear y .state) (appliedIn r apply takes es y))
+          → let s′ = goOn apply s (e .offset) x (λ y. replayAll apply es tear y) .state in
+          Good s′ × Rel s s′ (onward x (λ y. takes (e .field) s ++ appliedIn r apply takes es y))
+      go (accept y) w ih = let t = ih y (record-good (e .field) s y (k .0) h w) in (t .0, more s y _ (takes (e .field) s) _ (one (e .field) s y h w) (t .1))
+      go (refuse q) w ih = (h, same s)
+
 -- ---- any operations on an area
 
 -- the area holds good contents, and from n codes out these changes led to them
@@ -75,24 +97,11 @@ module _ {S : Type 0} (r : Register S) (Good : S → Type 0) (sound : Sound r Go
   abbrev out : S → ℕ
   out s = length (loans s)
 
-  -- whether the records run to their end or one stops them
   replay-balanced : (es : List Record) (tear : Option ℕ) (s : S) → BytesIn es → Good s
       → let s′ = replayAll apply es tear s .state in Good s′ × Balance (out s) (out s′) (appliedIn r apply takes es s)
-  unfolding replayAll appliedIn
-  replay-balanced [] tear s k h = (h, refl)
-  replay-balanced (e ∷ es) tear s k h = go (apply (e .field) s) refl (λ s′ g. replay-balanced es tear s′ (k .1) g)
-    where
-      go : (x : Answer S) → apply (e .field) s ≡ x
-          → ((y : S) → Good y → Good (replayAll apply es tear y .state) × Balance (out y) (out (replayAll apply es tear y .state)) (appliedIn r apply takes es y))
-          → let s′ = goOn apply s (e .offset) x (λ y. replayAll apply es tear y) .state in
-          Good s′ × Balance (out s) (out s′) (onward x (λ y. takes (e .field) s ++ appliedIn r apply takes es y))
-      go (accept y) w ih =
-          let t = ih y (record-good (e .field) s y (k .0) h w) in (
-            t .0,
-            balance-more (out s) (out y) (out (replayAll apply es tear y .state)) (takes (e .field) s) (appliedIn r apply takes es y)
-                (record-balance (e .field) s y w) (t .1),
-          )
-      go (refuse q) w ih = (h, refl)
+  replay-balanced =
+      replay-walk r Good apply takes record-good (λ s s′ chs. Balance (out s) (out s′) chs) (λ s. refl) (λ s t u. balance-more (out s) (out t) (out u))
+      (λ f s s′ h. record-balance f s s′)
 
   operation-balanced : (w : Operation) (area : List ℕ) (s : S) → GoodOperation w → area ≡ r .bytes s → Good s
       → Balanced r Good loans (out s) (performOn r apply w area .state) (changesBy r apply takes w area)

@@ -1,6 +1,6 @@
 -- The numbers in front of the places are true in every register, and the first is accepted issues minus accepted returns.
 use Prim.Native.Nat.{ℕ, _+_, _-_, _*_, _≤_, _<_}
-use mathlib.Core.Path.{_≡_, sym, _∙_, ap}
+use mathlib.Core.Path.{_≡_, refl, sym, _∙_, ap}
 use mathlib.Core.Bool.{true}
 use mathlib.Core.List.{List, [], _∷_}
 use native.Mathlib.Omega.{arith}
@@ -53,13 +53,19 @@ list-balance = change-balance (λ (ls : List Loan). ls) put without (λ l ls o. 
 applied-balance : (ch : Change) (s s′ : Contents) → applied ch s ≡ accept s′ → Balance (length (s .loans)) (length (s′ .loans)) (ch ∷ [])
 applied-balance ch s s′ e = list-balance ch (s .loans) (s′ .loans) (taken changedLoans ch s s′ e .loans)
 
-record-balance : (f : Field) (s s′ : Contents) → applyRecord f s ≡ accept s′ → Balance (length (s .loans)) (length (s′ .loans)) (takesRecord f s)
-record-balance f s s′ e =
+-- what a change makes of the loans, an accepted record makes by the change that it stands for
+pub record-takes : (Rel : List Loan → List Loan → List Change → Type 0) → ((ls : List Loan) → Rel ls ls [])
+    → ((ch : Change) (ls ls′ : List Loan) → changedLoans ch ls ≡ accept ls′ → Rel ls ls′ (ch ∷ []))
+    → (f : Field) (s s′ : Contents) → applyRecord f s ≡ accept s′ → Rel (s .loans) (s′ .loans) (takesRecord f s)
+record-takes Rel none one f s s′ e =
     let ch : Change = numberedOf f .change in
     elim (took f s s′ e .1) [
-      | skipped w q ↦ rw (w, ← q)
-      | next w q ↦ rw w (accepted-value (changedLoans ch (s .loans)) _ (λ x. Balance (length (s .loans)) (length (x .loans)) (ch ∷ [])) (list-balance ch (s .loans)) s′ q)
+      | skipped w q ↦ rw (w, ← q) (none (s .loans))
+      | next w q ↦ rw w (accepted-value (changedLoans ch (s .loans)) _ (λ x. Rel (s .loans) (x .loans) (ch ∷ [])) (one ch (s .loans)) s′ q)
     ]
+
+record-balance : (f : Field) (s s′ : Contents) → applyRecord f s ≡ accept s′ → Balance (length (s .loans)) (length (s′ .loans)) (takesRecord f s)
+record-balance = record-takes (λ ls ls′ chs. Balance (length ls) (length ls′) chs) (λ ls. refl) list-balance
 
 pub kept : (w : Operation) (area : List ℕ) → GoodOperation w → Below 256 area → isRegister area ≡ true
     → isRegister (performOn register applyRecord w area .state) ≡ true

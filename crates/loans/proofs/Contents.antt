@@ -259,7 +259,7 @@ no-number : digits 8 4 0 ≡ zeros 4
 unfolding digits zeros
 no-number = refl
 
-no-loans : bytesOf nothing ≡ zeros 12308
+pub no-loans : bytesOf nothing ≡ zeros 12308
 unfolding bytesOf placed
 no-loans =
     ap₂ (λ (a b : List ℕ). a ++ b) no-counts (ap₂ (λ (a b : List ℕ). a ++ b) (free-bytes 256) no-number ∙ zeros-more 12288 4) ∙ zeros-more 16 12292

@@ -25,10 +25,12 @@ use Rattle.loans.specs.Replay.{replayAll}
 use Rattle.loans.specs.Records.{isRecord, changeOf}
 use Rattle.loans.specs.Numbered.{takingNext}
 use Rattle.loans.specs.PendingLog.{isNumbered, numberedOf, inTurn, applyWith}
+use Rattle.loans.specs.CodesOut.{appliedIn}
+use Rattle.loans.specs.Promotion.{difference, compared}
 use Rattle.loans.specs.Examples.{Examples}
 
 pub examples : Examples
-unfolding digits value allBelow byteCount spareCount fromDigits upper indexOf digitIn decode base32 firstOf prefixOf rowOf rowBy varnibble readVarnibble nibbles packed headerBytes readHeader typeOf mainTypeOf sets setOf unitTypes compositeSubtype isWide row bodyBytes itemBytes readItem readOne cut compositeOf wideOf meaningAs unitLengthNumber flatten itemOf readUpTo readItems every pairwise bodyIn subtypeIn subtypeOf compositeFrom meaningOfItems isBlank trimStart trimEnd sameBytes scheme schemeLength dropHyphens trimmed behindScheme cleaned decodeRun payload itemsOfText meaningOfText codeBytes oneCode find without before zeros free placeBytes placesBytes placeOf isPlace follows inOrder placed put halving searched codeType countOf inPairs countsBytes pasted numberAt withNumber oneMore oneLess changeWith fieldBytes firstSize firstIsWhole firstField recordsUpTo recordsFrom replayAll isRecord changeOf takingNext isNumbered numberedOf inTurn applyWith
+unfolding digits value allBelow byteCount spareCount fromDigits upper indexOf digitIn decode base32 firstOf prefixOf rowOf rowBy varnibble readVarnibble nibbles packed headerBytes readHeader typeOf mainTypeOf sets setOf unitTypes compositeSubtype isWide row bodyBytes itemBytes readItem readOne cut compositeOf wideOf meaningAs unitLengthNumber flatten itemOf readUpTo readItems every pairwise bodyIn subtypeIn subtypeOf compositeFrom meaningOfItems isBlank trimStart trimEnd sameBytes scheme schemeLength dropHyphens trimmed behindScheme cleaned decodeRun payload itemsOfText meaningOfText codeBytes oneCode find without before zeros free placeBytes placesBytes placeOf isPlace follows inOrder placed put halving searched codeType countOf inPairs countsBytes pasted numberAt withNumber oneMore oneLess changeWith fieldBytes firstSize firstIsWhole firstField recordsUpTo recordsFrom replayAll isRecord changeOf takingNext isNumbered numberedOf inTurn applyWith appliedIn difference compared
 examples =
     record {
       place = refl;
@@ -102,4 +104,27 @@ examples =
       nextTaken = refl;
       twiceFirst = refl;
       twiceSecond = refl;
+      noDifference = refl;
+      inFirstOnly = refl;
+      inSecondOnly = refl;
+      otherBorrower = refl;
+      leastOfThree = refl;
+      firstShorter = refl;
+      secondShorter = refl;
+      bothAlike = refl;
+      lastAlone = refl;
+      codeFirst = refl;
+      wholeLog = refl;
+      cutBetween = refl;
+      tornLog = refl;
+      stoppedAt29 = refl;
+      firstLacking = refl;
+      skippedNone = refl;
+      stoppedNone = refl;
+      bothThere = refl;
+      noneThere = refl;
+      secondToAnother = refl;
+      moreChanges = refl;
+      secondTorn = refl;
+      secondCutOff = refl;
     }

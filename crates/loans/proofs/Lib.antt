@@ -36,5 +36,10 @@ pub mod CountPromises
 pub mod LogPromises
 pub mod Again
 pub mod NumberPromises
+pub mod Promotion
+pub mod Verdict
+pub mod PromotionOrder
+pub mod Night
+pub mod PromotionPromises
 pub mod WideLoans
 pub mod Examples

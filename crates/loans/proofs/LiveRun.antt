@@ -29,12 +29,12 @@ abbrev after : List Call → List ℕ → List ℕ
 after ks area = stateAfter (changedArea register) (askedArea register) ks area
 
 -- the area holds what replay of the log gives
-record Follows (start : Contents) (log area : List ℕ) : Type 0 where
-  contents : Contents
-  bytes : area ≡ bytesOf contents
-  runs : replayFrom applyRecord 0 log start ≡ record { state = contents; end = ended }
+pub record Follows (start : Contents) (log area : List ℕ) : Type 0 where
+  pub contents : Contents
+  pub bytes : area ≡ bytesOf contents
+  pub runs : replayFrom applyRecord 0 log start ≡ record { state = contents; end = ended }
 
-run-follows : (start : Contents) (ks : List Call) (area : List ℕ) (s : Contents) (log : List ℕ) (position : ℕ) (w : Written)
+pub run-follows : (start : Contents) (ks : List Call) (area : List ℕ) (s : Contents) (log : List ℕ) (position : ℕ) (w : Written)
     → area ≡ bytesOf s → GoodContents s → GoodCalls ks
     → replayFrom applyRecord 0 (take position log) start ≡ record { state = s; end = ended }
     → writeAll (recordsMade ks area) (record { log = log; position = position }) ≡ accept w

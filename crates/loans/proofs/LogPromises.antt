@@ -62,7 +62,7 @@ write-numbers n log position q e =
     (λ p. test-numbers 1 24 areaTooShort (leb (position + length (fieldBytes (recordOf n))) (length log)) _ p (omega arith, omega arith)
     (λ r d. absurd (never (sym d)))) e
 
-record-numbers : (f : Field) (s : Contents) (q : Refusal) → applyRecord f s ≡ refuse q → Within 20 25 q
+pub record-numbers : (f : Field) (s : Contents) (q : Refusal) → applyRecord f s ≡ refuse q → Within 20 25 q
 unfolding applyWith turn
 record-numbers f s q e = test-numbers 20 25 notRecord (isNumbered f) _ q (omega arith, omega arith) (go (leb (numberIn f) (s .last))) e
   where

@@ -1,7 +1,7 @@
 -- The same map, whatever the order of its loans; and one change of a register that is the plain map's.
 use Prim.Native.Nat.{ℕ, suc, _<_}
 use mathlib.Core.Path.{_≡_, refl, sym, _∙_, ap, subst}
-use mathlib.Core.Bool.{Bool, true, false, not, true≢false}
+use mathlib.Core.Bool.{Bool, true, false, cond, not, true≢false}
 use mathlib.Core.Option.{Option, none, some}
 use mathlib.Core.List.{List, _∷_}
 use native.Mathlib.Omega.{arith}
@@ -10,6 +10,7 @@ use lib.Dec.{ltb}
 use borrow.Author.Tests.{ltb-true}
 use Rattle.iscc.specs.Answer.{Answer, accept, refuse, _>>_, _otherwise_}
 use Rattle.iscc.specs.Refusals.{alreadyOut, allOut, notOut}
+use Rattle.iscc.specs.Lists.{sameBytes}
 use Rattle.loans.specs.Loan.{Loan, loanOf, find, isSome, isOut, without}
 use Rattle.loans.specs.Map.{Change, issueCode, returnCode, changeWith, mapChanged}
 use Rattle.loans.specs.Good.{Distinct, GoodLoan, GoodChange}
@@ -20,6 +21,11 @@ pub record Same (ls m : List Loan) : Type 0 where
   pub finds : (c : List ℕ) → find c ls ≡ find c m
   pub sizes : length ls ≡ length m
 
+-- one loan before both
+pub find-cons : (k : Loan) (ls m : List Loan) (c : List ℕ) → find c ls ≡ find c m → find c (k ∷ ls) ≡ find c (k ∷ m)
+unfolding find
+find-cons k ls m c e = ap (cond (sameBytes c (k .code)) (some (k .borrower))) e
+
 pub same-refl : (ls : List Loan) → Same ls ls
 same-refl ls = record { finds = λ c. refl; sizes = refl }
 
@@ -27,15 +33,7 @@ same-refl ls = record { finds = λ c. refl; sizes = refl }
 
 module _ (l : Loan) (ls m : List Loan) (s : Same ls m) (o : find (l .code) m ≡ none) where
   pub same-more : (ls′ : List Loan) → Same ls′ (l ∷ ls) → Same ls′ (l ∷ m)
-  same-more ls′ t =
-      record {
-        finds = λ c. t .finds c ∙ go c (same? c (l .code));
-        sizes = t .sizes ∙ ap suc (s .sizes);
-      }
-    where
-      go : (c : List ℕ) → Same? c (l .code) → find c (l ∷ ls) ≡ find c (l ∷ m)
-      go c (same p q) = find-here c l ls p ∙ sym (find-here c l m p)
-      go c (other p q) = find-there c l ls p ∙ s .finds c ∙ sym (find-there c l m p)
+  same-more ls′ t = record { finds = λ c. t .finds c ∙ find-cons l ls m c (s .finds c); sizes = t .sizes ∙ ap suc (s .sizes) }
 
 module _ (c : List ℕ) (ls m : List Loan) (s : Same ls m) (dl : Distinct ls) (dm : Distinct m) (o : isOut c m ≡ true) where
   pub same-fewer : Same (without c ls) (without c m)
@@ -60,13 +58,8 @@ same-swap k l ls f = record { finds = λ c. go c (same? c (k .code)) (same? c (l
     go c (other p q) (other r t) =
         find-there c k (l ∷ ls) p ∙ find-there c l ls r ∙ sym (find-there c l (k ∷ ls) r ∙ find-there c k ls p)
 
--- one loan before both
 pub same-cons : (k : Loan) (ls m : List Loan) → Same ls m → Same (k ∷ ls) (k ∷ m)
-same-cons k ls m s = record { finds = λ c. go c (same? c (k .code)); sizes = ap suc (s .sizes) }
-  where
-    go : (c : List ℕ) → Same? c (k .code) → find c (k ∷ ls) ≡ find c (k ∷ m)
-    go c (same p q) = find-here c k ls p ∙ sym (find-here c k m p)
-    go c (other p q) = find-there c k ls p ∙ s .finds c ∙ sym (find-there c k m p)
+same-cons k ls m s = record { finds = λ c. find-cons k ls m c (s .finds c); sizes = ap suc (s .sizes) }
 
 pub same-trans : (a b c : List Loan) → Same a b → Same b c → Same a c
 same-trans a b c s t = record { finds = λ d. s .finds d ∙ t .finds d; sizes = s .sizes ∙ t .sizes }

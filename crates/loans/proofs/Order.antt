@@ -26,7 +26,7 @@ pub behind-trans : (c d : List ℕ) (ls : List Loan) → before c d ≡ true →
 behind-trans c d [] e a = tt
 behind-trans c d (l ∷ ls) e a = (before-trans c d (l .code) e (a .0), behind-trans c d ls e (a .1))
 
-find-behind : (c : List ℕ) (ls : List Loan) → AllBehind c ls → find c ls ≡ none
+pub find-behind : (c : List ℕ) (ls : List Loan) → AllBehind c ls → find c ls ≡ none
 unfolding find
 find-behind c [] a = refl
 find-behind c (l ∷ ls) a = find-there c l ls (before-other c (l .code) (a .0)) ∙ find-behind c ls (a .1)

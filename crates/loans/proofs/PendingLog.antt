@@ -22,6 +22,7 @@ use Rattle.loans.specs.Numbered.{Contents, mapNumbered, mapNumberedAsked
 use Rattle.loans.specs.Contents.{changedLoans, applied, register}
 use Rattle.loans.specs.Operations.{Operation, GoodOperations, allTold}
 use Rattle.loans.specs.Fields.{Field, fieldBytes}
+use Rattle.loans.specs.Log.{recordsFrom}
 use Rattle.loans.specs.Replay.{ended, goOn, replayFrom, replayed}
 use Rattle.loans.specs.Writer.{Written, appended, Appended}
 use Rattle.loans.specs.Records.{codeOf, bodyOf, isRecord}
@@ -31,7 +32,8 @@ use Rattle.loans.proofs.Map.{Both}
 use Rattle.loans.proofs.Place.{four-bytes-back}
 use Rattle.loans.proofs.Numbered.{number-left}
 use Rattle.loans.proofs.Contents.{HeldContents, HoldsContents, held-good, held-self, both-good, with-number, list-changes, register-changes, register-asks, register-sound}
-use Rattle.loans.proofs.Replay.{append-writes, append-replay}
+use Rattle.loans.proofs.Fields.{bytes-in}
+use Rattle.loans.proofs.Replay.{append-writes, append-replay, replay-alike}
 use Rattle.loans.proofs.Performed.{all-told}
 use Rattle.loans.proofs.Records.{body-length, record-is, change-back, small-value, good-change}
 
@@ -158,6 +160,11 @@ record-both f s m k h = go (isNumbered f) refl
 -- a record leaves good contents
 pub record-good : (f : Field) (s s′ : Contents) → Below 256 (f .body) → GoodContents s → applyRecord f s ≡ accept s′ → GoodContents s′
 record-good f s s′ k h = both-good (applyRecord f s) (applyToMap f s) (record-both f s s k (held-self s h)) s′
+
+-- and so does a log, to its end or to where it stops
+pub replay-good : (log : List ℕ) (s : Contents) → Below 256 log → GoodContents s → GoodContents (replayFrom applyRecord 0 log s .state)
+replay-good log s k g =
+    held-good _ _ (replay-alike applyRecord applyToMap HeldContents record-both (recordsFrom 0 log .whole) (recordsFrom 0 log .tear) s s (bytes-in 0 log k) (held-self s g) .state)
 
 pub register-told : (ws : List Operation) (area : List ℕ) (m : Contents) → GoodOperations ws → HoldsContents area m
     → allTold (changedArea register) (askedArea register) (replayed register applyRecord) ws area

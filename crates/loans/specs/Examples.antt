@@ -5,7 +5,7 @@ use mathlib.Core.Bool.{true, false}
 use mathlib.Core.Option.{none, some}
 use mathlib.Core.List.{List, [], _∷_, _++_}
 use lib.ListN.{take}
-use Rattle.iscc.specs.Refusals.{alreadyOut, notOut, notRecord, numberGap, numbersSpent}
+use Rattle.iscc.specs.Refusals.{alreadyOut, notOut, notRecord, numberGap, numbersSpent, lastNumbersDiffer, logTorn, loansDiffer}
 use Rattle.iscc.specs.Answer.{accept, refuse}
 use Rattle.iscc.specs.Ascii.{ascii}
 use Rattle.iscc.specs.Doors.{codeBytes}
@@ -22,6 +22,8 @@ use Rattle.loans.specs.Fields.{Field, fieldBytes}
 use Rattle.loans.specs.Log.{Record, Records, recordsFrom}
 use Rattle.loans.specs.Replay.{ended, stopped, replayFrom}
 use Rattle.loans.specs.PendingLog.{recordOf, applyRecord}
+use Rattle.loans.specs.Promotion.{Verdict, granted, refused, refusedAt, refusedFor, difference, compared, fromEmpty, verdictOf}
+use Rattle.loans.specs.PromotionPromises.{changesIn}
 
 -- two META units of 32 bits
 abbrev pub one : List ℕ
@@ -67,6 +69,25 @@ labelLog = (3 ∷ 0 ∷ 0x1A ∷ 0 ∷ 0 ∷ 0 ∷ 1 ∷ 0 ∷ 0 ∷ 1 ∷ 2 ∷
 -- the label out to borrower 258, by so many changes
 abbrev pub labelOutAt : ℕ → Contents
 labelOutAt n = record { loans = loanOf label 258 ∷ []; last = n }
+
+-- the label taken back
+abbrev pub labelReturned : Contents
+labelReturned = record { loans = []; last = 2 }
+
+-- issued twice, the second time with the next number
+abbrev pub twiceOut : List ℕ
+twiceOut = fieldBytes labelOut ++ fieldBytes (numbered 2 (issueCode label 1))
+
+-- a log against what a replica holds
+abbrev pub against : List ℕ → Contents → Verdict
+against log held = verdictOf held (accept (fromEmpty log))
+
+-- two issues, and a replica that has both, the second to this borrower, by so many changes
+abbrev pub twoOut : List ℕ
+twoOut = fieldBytes labelOut ++ fieldBytes (numbered 2 (issueCode id 7))
+
+abbrev pub bothOut : ℕ → ℕ → Contents
+bothOut b n = record { loans = loanOf label 258 ∷ loanOf id b ∷ []; last = n }
 
 -- records, each with its offset, and no tear; or a tear behind them
 abbrev pub recordAt : ℕ → Field → Record
@@ -147,7 +168,7 @@ pub record Examples : Type 0 where
   pub oldIssue : applyRecord (record { tag = 1; body = 0 ∷ 0 ∷ 1 ∷ 2 ∷ label }) nothing ≡ refuse notRecord
   pub oldReturn : applyRecord (record { tag = 2; body = label }) nothing ≡ refuse notRecord
   -- one code issued twice: the first stays applied, and the last number is its own
-  pub issuedTwice : replayFrom applyRecord 0 (fieldBytes labelOut ++ fieldBytes (numbered 2 (issueCode label 1)) ++ fieldBytes (numbered 3 (returnCode label))) nothing
+  pub issuedTwice : replayFrom applyRecord 0 (twiceOut ++ fieldBytes (numbered 3 (returnCode label))) nothing
       ≡ record { state = labelOutAt 1; end = stopped alreadyOut 29 }
   -- a live change takes the next number, up to the last; with no number left it is 26, where the code is out too
   pub takesNext : applied (issueCode label 258) (record { loans = []; last = 6 }) ≡ accept (labelOutAt 7)
@@ -162,7 +183,36 @@ pub record Examples : Type 0 where
   pub gap : applyRecord (numbered 3 (returnCode label)) (labelOutAt 1) ≡ refuse numberGap
   pub gapFirst : applyRecord (numbered 3 (returnCode one)) (labelOutAt 1) ≡ refuse numberGap
   pub nextNotOut : applyRecord (numbered 2 (returnCode one)) (labelOutAt 1) ≡ refuse notOut
-  pub nextTaken : applyRecord labelBack (labelOutAt 1) ≡ accept (record { loans = []; last = 2 })
+  pub nextTaken : applyRecord labelBack (labelOutAt 1) ≡ accept labelReturned
   -- the log of the label a second time
-  pub twiceFirst : replayFrom applyRecord 0 labelLog nothing ≡ record { state = record { loans = []; last = 2 }; end = ended }
-  pub twiceSecond : replayFrom applyRecord 0 labelLog (record { loans = []; last = 2 }) ≡ record { state = record { loans = []; last = 2 }; end = ended }
+  pub twiceFirst : replayFrom applyRecord 0 labelLog nothing ≡ record { state = labelReturned; end = ended }
+  pub twiceSecond : replayFrom applyRecord 0 labelLog labelReturned ≡ record { state = labelReturned; end = ended }
+  -- two registers: the least code that one of them holds alone, or with another borrower
+  pub noDifference : difference four four ≡ none
+  pub inFirstOnly : difference (loanOf one 1 ∷ loanOf two 2 ∷ []) (loanOf two 2 ∷ []) ≡ some one
+  pub inSecondOnly : difference (loanOf two 2 ∷ []) (loanOf one 1 ∷ loanOf two 2 ∷ []) ≡ some one
+  pub otherBorrower : difference (loanOf one 1 ∷ loanOf two 2 ∷ []) (loanOf one 1 ∷ loanOf two 3 ∷ []) ≡ some two
+  pub leastOfThree : difference (loanOf one 1 ∷ loanOf label 3 ∷ loanOf id 4 ∷ []) (loanOf one 1 ∷ loanOf two 2 ∷ loanOf id 9 ∷ []) ≡ some two
+  pub firstShorter : difference (loanOf one 1 ∷ []) four ≡ some two
+  pub secondShorter : difference four (loanOf one 1 ∷ loanOf two 2 ∷ loanOf label 3 ∷ []) ≡ some id
+  -- 27 where the last numbers alone differ; 37 before it
+  pub bothAlike : compared (labelOutAt 1) (labelOutAt 1) ≡ granted
+  pub lastAlone : compared (labelOutAt 1) (labelOutAt 3) ≡ refused lastNumbersDiffer
+  pub codeFirst : compared (labelOutAt 1) labelReturned ≡ refusedFor loansDiffer label
+  -- the log of the label: to its end, cut between its records, and torn one byte later, where the registers are the same too
+  pub wholeLog : against labelLog labelReturned ≡ granted
+  pub cutBetween : against (take 29 labelLog) (labelOutAt 1) ≡ granted
+  pub tornLog : against (take 30 labelLog) (labelOutAt 1) ≡ refusedAt logTorn 29
+  -- the replay's own numbers: 20, also where a tear is behind it; 25 where the log lacks its first record
+  pub stoppedAt29 : against (twiceOut ++ 4 ∷ []) (labelOutAt 1) ≡ refusedAt alreadyOut 29
+  pub firstLacking : against (fieldBytes labelBack) nothing ≡ refusedAt numberGap 0
+  -- "A record that is skipped is not one of them.", nor is one that stops the replay
+  pub skippedNone : changesIn (fieldBytes labelOut ++ fieldBytes labelOut) ≡ issueCode label 258 ∷ []
+  pub stoppedNone : changesIn twiceOut ≡ issueCode label 258 ∷ []
+  -- the example of Promotion, row by row
+  pub bothThere : against twoOut (bothOut 7 2) ≡ granted
+  pub noneThere : against twoOut nothing ≡ refusedFor loansDiffer label
+  pub secondToAnother : against twoOut (bothOut 9 2) ≡ refusedFor loansDiffer id
+  pub moreChanges : against twoOut (bothOut 7 4) ≡ refused lastNumbersDiffer
+  pub secondTorn : against (take 49 twoOut) (bothOut 7 2) ≡ refusedAt logTorn 29
+  pub secondCutOff : against (take 29 twoOut) (bothOut 7 2) ≡ refusedFor loansDiffer id

@@ -27,5 +27,8 @@ pub mod LogPromises
 pub mod NumberPromises
 pub mod CodesOut
 pub mod CountPromises
+pub mod Promotion
+pub mod PromotionOrder
+pub mod PromotionPromises
 pub mod WideLoans
 pub mod Examples

@@ -38,7 +38,7 @@ pub fn replay(log: &[u8], area: &mut [u8]) -> Replayed
     Replayed::Refused(Refusal::NOT_REGISTER)
 }
 
-fn run(log: &[u8], area: &mut [u8]) -> Replayed
+pub fn run(log: &[u8], area: &mut [u8]) -> Replayed
     requires { ⌜ isRegister (now area) ≡ true ⌝ }
     ensures answer { λ r. ⌜ r ≡ replayedAs (replayLog (now (log .entry)) (now (area .entry))) ⌝ }
     ensures area { λ _. ⌜ now (area .exit) ≡ areaReplayed (now (area .entry)) (replayLog (now (log .entry)) (now (area .entry))) ⌝ }

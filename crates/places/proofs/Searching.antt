@@ -6,7 +6,7 @@ use mathlib.Core.List.{List}
 use native.Mathlib.Nat.{zero-add}
 use native.Mathlib.Numerals.{add-one}
 use native.Mathlib.Omega.{arith}
-use lib.ListN.{length, getD, take, drop}
+use lib.ListN.{length, getD, take, drop, length-take}
 use Rattle.octets.specs.Representation.{orderAs, frontAs}
 use Rattle.octets.specs.declared.compare.Order.{Order}
 use Rattle.octets.specs.declared.compare.Order.the-variants.{Before, Same, Behind}
@@ -20,28 +20,33 @@ use Rattle.loans.proofs.Halving.{halving-none, halving-found, halving-front, ha
 use Rattle.places.specs.declared.search.Found.{Found}
 use Rattle.places.specs.Representation.{foundAs}
 
--- ---- one look
+-- ---- the code in a place
 
-module _ (bs : List ℕ) (i : ℕ) (p : (length bs ≡ 12288) × (areOrdered bs ≡ true) × (i < length (loansAt bs)) × (i < 256)) where
-  pub code-fits : (n : ℕ) → n ≡ getD bs (48 * i) 0 → 48 * i + 1 + n ≤ length bs
-  code-fits n e = omega (arith, e, p .0, p .3, length-short bs i (p .0) (p .3) (are-places bs (p .1)))
+module _ (bs : List ℕ) (i : ℕ) (p : (length bs ≡ 12288) × (areOrdered bs ≡ true) × (i < length (loansAt bs)) × (i < 256)) (n : ℕ) (e : n ≡ getD bs (48 * i) 0) where
+  code-few : n ≤ 42
+  code-few = omega (arith, e, length-short bs i (p .0) (p .3) (are-places bs (p .1)))
 
-  module _ (c : List ℕ) (n : ℕ) (e : n ≡ getD bs (48 * i) 0) where
-    abbrev held : List ℕ
-    held = take (48 * i + 1 + n - (48 * i + 1)) (drop (48 * i + 1) bs)
+  pub code-fits : 48 * i + 1 + n ≤ length bs
+  code-fits = omega (arith, code-few, p .0, p .3)
 
-    held-is : orderAs c held ≡ orderAs c (loanIn (loansAt bs) i .code)
-    held-is = ap (orderAs c) (code-there bs (p .1) (p .0) i (p .2) n e)
+  pub code-read : take (48 * i + 1 + n - (48 * i + 1)) (drop (48 * i + 1) bs) ≡ loanIn (loansAt bs) i .code
+  code-read = code-there bs (p .1) (p .0) i (p .2) n e
 
-    pub looked-whole : (r : Order) → r ≡ orderAs c (take (48 * i + 1 + n - (48 * i + 1)) (drop (48 * i + 1) bs)) → r ≡ orderAs c (loanIn (loansAt bs) i .code)
-    looked-whole r q = q ∙ held-is
+  pub code-short : length (take (48 * i + 1 + n - (48 * i + 1)) (drop (48 * i + 1) bs)) ≤ 42
+  code-short = omega (arith, code-few, length-take (48 * i + 1 + n - (48 * i + 1)) (drop (48 * i + 1) bs))
 
-    module _ (f : Order) (q : f ≡ frontAs c (take (48 * i + 1 + n - (48 * i + 1)) (drop (48 * i + 1) bs))) where
-      pub looked-before : f ≡ Before → Before ≡ orderAs c (loanIn (loansAt bs) i .code)
-      looked-before w = sym (front-before c held (sym q ∙ w)) ∙ held-is
+-- ---- one look: what is held there is k
 
-      pub looked-behind : f ≡ Behind → Behind ≡ orderAs c (loanIn (loansAt bs) i .code)
-      looked-behind w = sym (front-behind c held (sym q ∙ w)) ∙ held-is
+module _ (c held k : List ℕ) (e : held ≡ k) where
+  pub looked-whole : (r : Order) → r ≡ orderAs c held → r ≡ orderAs c k
+  looked-whole r q = q ∙ ap (orderAs c) e
+
+  module _ (f : Order) (q : f ≡ frontAs c held) where
+    pub looked-before : f ≡ Before → Before ≡ orderAs c k
+    looked-before w = looked-whole Before (sym (front-before c held (sym q ∙ w)))
+
+    pub looked-behind : f ≡ Behind → Behind ≡ orderAs c k
+    looked-behind w = looked-whole Behind (sym (front-behind c held (sym q ∙ w)))
 
 -- ---- the search
 

@@ -1,11 +1,14 @@
 // One place: 48 bytes with a loan, or free.
 ghost use mathlib.Core.Path.{_≡_};
+ghost use mathlib.Core.Bool.{true};
 ghost use mathlib.Core.Option.{some};
 ghost use Prim.Native.Nat.{_+_, _*_, _≤_, _<_};
 ghost use lib.ListN.{length, take, drop};
 ghost use Rattle.iscc.specs.Digits.{allBelow, value};
 ghost use Rattle.loans.specs.Loan.{loanOf};
 ghost use Rattle.loans.specs.Place.{placeBytes};
+ghost use Rattle.loans.specs.Order.{areOrdered, loansAt};
+ghost use Rattle.loans.specs.Halving.{loanIn};
 ghost use Rattle.places.specs.Used.{isUsed};
 use crate::code::is_code;
 use iscc::code::LONGEST_CODE;
@@ -63,6 +66,16 @@ pub fn place_of(code: &[u8], borrower: u32) -> [u8; 48]
     bytes::copy(code, &mut place[CODE_OFFSET..BORROWER_OFFSET]);
     octets::number::write(borrower, &mut place[BORROWER_OFFSET..PLACE_LENGTH]);
     place
+}
+
+// The code in a used place.
+pub fn code<'a>(places: &'a [u8], i: usize) -> &'a [u8]
+    requires { ⌜ (length (now places) ≡ 12288) × (areOrdered (now places) ≡ true) × (i < length (loansAt (now places))) × (i < 256) ⌝ }
+    ensures { λ r. ⌜ (now r ≡ loanIn (loansAt (now (places .entry))) i .code) × (length (now r) ≤ 42) ⌝ }
+{
+    let start = PLACE_LENGTH * i;
+    let n = widen(places[start]);
+    &places[start + CODE_OFFSET..start + CODE_OFFSET + n]
 }
 
 // The borrower in a place.

@@ -7,9 +7,7 @@ ghost use Rattle.octets.specs.Representation.{orderAs};
 ghost use Rattle.loans.specs.Order.{areOrdered, loansAt};
 ghost use Rattle.loans.specs.Halving.{loanIn, searched};
 ghost use Rattle.places.specs.Representation.{foundAs};
-use crate::place::widen;
-use loans::layout::CODE_OFFSET;
-use loans::layout::PLACE_LENGTH;
+use crate::place;
 use octets::compare;
 use octets::compare::Order;
 
@@ -21,13 +19,11 @@ pub struct Found {
 }
 
 // How the code stands to the one in a used place.
-fn look(places: &[u8], i: usize, code: &[u8]) -> Order
+pub fn look(places: &[u8], i: usize, code: &[u8]) -> Order
     requires { ⌜ (length (now places) ≡ 12288) × (areOrdered (now places) ≡ true) × (i < length (loansAt (now places))) × (i < 256) ⌝ }
     ensures { λ r. ⌜ r ≡ orderAs (now (code .entry)) (loanIn (loansAt (now (places .entry))) i .code) ⌝ }
 {
-    let start = PLACE_LENGTH * i;
-    let n = widen(places[start]);
-    let held = &places[start + CODE_OFFSET..start + CODE_OFFSET + n];
+    let held = place::code(places, i);
     let front = compare::front_of(code, held);
     match front {
         Order::Before => Order::Before,

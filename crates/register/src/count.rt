@@ -21,7 +21,7 @@ fn number(area: &[u8], i: usize) -> u32
 }
 
 // In all.
-pub(crate) fn codes_out(area: &[u8]) -> usize
+pub fn codes_out(area: &[u8]) -> usize
     requires { ⌜ isRegister (now area) ≡ true ⌝ }
     ensures { λ r. ⌜ (r ≡ length (loansOf (contentsOf (now (area .entry))))) × (r ≤ 256) ⌝ }
 {

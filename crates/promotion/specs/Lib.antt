@@ -1,0 +1,2 @@
+-- The checker's answers in the code.
+pub mod Representation
