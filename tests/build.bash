@@ -82,3 +82,15 @@ build_libraries() {
     fi
     print=$(fingerprint) && echo "$print" >"$built/libraries.print"
 }
+
+# The programs of the two halls.
+build_halls() {
+    local name
+    for name in counter standby; do
+        rt check "$name" || return
+        if [ ! -x "target/bin/$name" ]; then
+            echo "rt finds all proved, but target/bin/$name is gone: remove target/ and build anew"
+            return 1
+        fi
+    done
+}

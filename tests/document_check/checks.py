@@ -152,6 +152,10 @@ PROMISES = {
     "crates/loans/specs/WideLoans.antt": (r"\w+\.", 4),
     "crates/loans/specs/PromotionPromises.antt": (r"\w+\.", 36),
     "crates/console/specs/Promotion.antt": (r"ConsolePromotion\.", 7),
+    "crates/answers/specs/AnswerPromises.antt": (r"AnswerLines\.", 8),
+    "crates/hall/specs/ServingPromises.antt": (r"CounterServes\.", 3),
+    "crates/recovery/specs/Pieces.antt": (r"InPieces\.", 3),
+    "crates/recovery/specs/Recovery.antt": (r"(Recovery|HallPromises)\.", 9),
 }
 
 

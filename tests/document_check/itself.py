@@ -13,6 +13,7 @@ KNOWN = [
     "iscc/specs/Meaning.antt", "Doors.antt", "intake.tsv", "lines_NN.in", "tests/slips", "iscc_intake",
     "ISCC_TEXT_AREA", "--help", "RT_JOBS=1 rt ci", "compare intake", "rt dev NAME", "55 00",
     "r ≡ headerReadAs (readHeader bytes)", "iscc:maagztfqttvizpjr", "GAAW2PRCRS5LNVZV",
+    "./counter DIR ask TEXT", "./counter DIR", "./standby /srv/x promote LOG", "./standby --help", "tests/counter ask",
 ]
 UNKNOWN = [
     "iscc/refusal_numbers", "nowhere/*", "iscc/*_nothing", "Demand1.countUnder", "Demand2.countOver", "decode-encoded",
@@ -20,7 +21,8 @@ UNKNOWN = [
     "MainType::from_nothing", "header::reader::first_bad", "code::write_lists", "iscc/specs/Meanings.antt", "Door.antt",
     "outtake.tsv", "line_NN.in", "tests/slip", "iscc_outtake", "ISCC_TEXT_AREAS", "compare outtake", "rt develop NAME",
     "rt dev nothing", "tests/run --sideways", "tests/run sideways", "r ≡ headerReadAs (readHeaders bytes)",
-    "r .sideways", "--sideways", "antt", "eader", "tests/intake full_disks", "tests/run/", "Demand3.meant", "countOver",
+    "r .sideways", "--sideways", "antt", "eader", "tests/intake full_disks", "tests/counter register_behind",
+    "./counter DIR lend TEXT", "./standby DIR", "./counter --words", "tests/run/", "Demand3.meant", "countOver",
     "Table.set-back", "base32-back-again", "RT_JOBS=1 rt nothing", "nosuchlawname2", "nosuchlawname22222",
 ]
 # In any document, and nowhere in it.

@@ -15,18 +15,26 @@ OTHERS = set(
     requires ensures pub(crate) specs/ proofs/ src/ must-fail/ stdout stdin
     r D DEFINITION now .entry .exit λ otherwise Refused(q) offset index place position detail
     RT_JOBS DESTDIR ISCC_LIBRARY LD_LIBRARY_PATH PKG_CONFIG_PATH PYTHONPATH str
+    register.new register.old lending typed.txt --append --append-verify
+    pread pwrite fdatasync fsync ftruncate rename
     """.split()
-) | {"ISCC :", "proved / plain", "-C opt-level=3"}
+) | {"ISCC :", "proved / plain", "-C opt-level=3", "PRAGMA synchronous=FULL"}
 
 # Commands from outside; what follows one of them is not looked at, but for paths.
 OUTSIDE = set("gcc g++ rustc python3 valgrind pkg-config apt-get nm git cmp echo cat".split())
+OUTSIDE |= set("rsync ssh flock mv truncate diff sha256sum sqlite3".split())
 
 # What `rt` lists as its own commands.
 RT = set("check prove dev staticlib try must-fail ci goals mir fmt doc version selftest".split())
 RT_OPTIONS = {"fmt": {"--check"}, "dev": {"--allow-holes"}, "check": {"--allow-holes"}}
 
+# The programs that work on a folder of any name.
+HALLS = ("counter", "standby")
+HALL_OPTIONS = ("--help", "--version")
+
 # They stand for anything in a path or a command.
 PLACEHOLDERS = set("NAME CRATE NN PART CALL CASE CASES TABLE LINE FILE PREFIX SEED LABEL REVISION N M ..".split())
+PLACEHOLDERS |= set("DIR TEXT BORROWER LOG".split())
 
 COMMANDS = {"rt", *OUTSIDE, *BUILT}
 BASES = ("", "crates/", "crates/iscc/specs/", "tests/vectors/", "examples/python/")
@@ -35,7 +43,7 @@ HEX = re.compile(r"(?:0x)?[0-9A-Fa-f]{2}(?: [0-9A-Fa-f]{2})*(?: \.\.)?")
 NUMBER = re.compile(r"-?[0-9][0-9.,]*")
 # In small letters only behind the scheme: without it any name with a digit would do.
 BASE32 = re.compile(r"(?:[Ii][Ss][Cc][Cc]:[A-Za-z2-7]{8,}(?:-[A-Za-z2-7]{8,})*|[A-Z2-7]{8,}(?:-[A-Z2-7]{8,})*)")
-BUILT_PATH = re.compile(r"target(?:/(?:tests|staticlib|bin|log|installed|console)(?:/[\w.*-]+)*)?/?")
+BUILT_PATH = re.compile(r"target(?:/(?:tests|staticlib|bin|log|installed|console|counter-hall|standby-hall)(?:/[\w.*-]+)*)?/?")
 REVISION = re.compile(r"[0-9a-f]{7,40}")
 SYMBOLS = re.compile(r"[^\w]+")
 CALLED = re.compile(r"([\w:.]+)\(([\w, ]*)\)")
@@ -122,11 +130,20 @@ def argument_known(word: str, program: str, folder: str, index: Index) -> bool:
         return word in index.parts
     if program in BUILT.values():
         return word in index.calls
-    if program == "tests/intake":
+    if program in ("tests/intake", "tests/counter"):
         return bool(re.search(rf"^    expect {re.escape(word)} ", read(program), re.M))
     if program == "tests/selftest":
         return f"tests/slips/{word}.edit" in index.paths
     return is_path(word, folder, index) or word in index.crates
+
+
+def is_hall_command(words: list[str], program: str) -> bool:
+    """A folder, and a command that the launcher's comment explains; its own words may be anything. The counter takes the folder alone."""
+    if words[1].startswith("-"):
+        return len(words) == 2 and words[1] in HALL_OPTIONS
+    if len(words) == 2:
+        return program == "counter"
+    return bool(re.search(rf"^#   {re.escape(words[2])} ", read(program), re.M))
 
 
 def is_command(words: list[str], folder: str, index: Index) -> bool:
@@ -136,6 +153,8 @@ def is_command(words: list[str], folder: str, index: Index) -> bool:
     if words[0] in OUTSIDE:
         return all("/" not in w or w[0] == "-" or is_literal(w) or is_path(w, folder, index) for w in words)
     program = program_of(words[0], index)
+    if program in HALLS and len(words) > 1:
+        return is_hall_command(words, program)
     return bool(program) and all(argument_known(w, program, folder, index) for w in words[1:])
 
 

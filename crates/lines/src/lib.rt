@@ -3,4 +3,4 @@ mod answer;
 mod begun;
 pub mod feed;
 mod refused;
-mod scan;
+pub mod scan;

@@ -8,7 +8,7 @@ ghost use Rattle.lines.specs.Feeding.{notLF};
 pub const LF: u8 = 10;
 
 // The bytes before the first LF: all of them where there is none.
-pub(crate) fn line_length(piece: &[u8]) -> usize
+pub fn line_length(piece: &[u8]) -> usize
     ensures within { λ r. ⌜ r ≤ length (now (piece .entry)) ⌝ }
     ensures found { λ r. ⌜ r ≡ firstNot notLF (now (piece .entry)) ⌝ }
 {

@@ -8,20 +8,47 @@ use lib.ListN.{take}
 use Rattle.iscc.specs.Answer.{accept}
 use Rattle.iscc.specs.Digits.{Below}
 use Rattle.iscc.proofs.Answer.{answered, accept-inj}
+use Rattle.loans.specs.Map.{Change}
 use Rattle.loans.specs.Calls.{Call, stateAfter}
 use Rattle.loans.specs.Register.{changedArea, askedArea, callArea}
 use Rattle.loans.specs.Numbered.{Contents}
-use Rattle.loans.specs.Contents.{contentsOf, isRegister, bytesOf, changedLoans, register}
-use Rattle.loans.specs.Good.{GoodContents, GoodCalls}
+use Rattle.loans.specs.Contents.{contentsOf, isRegister, bytesOf, changedLoans, applied, register}
+use Rattle.loans.specs.Good.{GoodChange, GoodContents, GoodCalls}
 use Rattle.loans.specs.Replay.{ended, replayFrom, replayed}
 use Rattle.loans.specs.Writer.{Written}
-use Rattle.loans.specs.PendingLog.{NumberedChange, writeRecord, writeAll, applyRecord, replayLog}
+use Rattle.loans.specs.PendingLog.{NumberedChange, recordOf, writeRecord, writeAll, applyRecord, replayLog}
 use Rattle.loans.specs.Operations.{recordsMade, withLast}
 use Rattle.loans.proofs.Numbered.{taken}
 use Rattle.loans.proofs.Contents.{register-sound, applied-good}
 use Rattle.loans.proofs.Made.{nothing, change, call-made}
-use Rattle.loans.proofs.Replay.{replay-end}
-use Rattle.loans.proofs.PendingLog.{GoodNumbered, next-in-turn, next-is-applied, write-replay}
+use Rattle.loans.proofs.Replay.{replay-end, append-replay}
+use Rattle.loans.proofs.PendingLog.{GoodNumbered, record-short, number-back, numbered-is, numbered-back, is-record, next-in-turn, next-is-applied, written}
+
+-- ---- a change that a call made, with the number that it took
+
+module _ (ch : Change) (s s′ : Contents) (area : List ℕ)
+    (gc : GoodChange ch) (h : GoodContents s) (p : applied ch s ≡ accept s′) (a : area ≡ bytesOf s′) where
+  abbrev n : NumberedChange
+  n = withLast area ch
+
+  s-good : GoodContents s′
+  s-good = applied-good ch s s′ gc h p
+
+  took-last : n .number ≡ s′ .last
+  took-last = ap (λ (x : List ℕ). contentsOf x .last) a ∙ ap (λ (x : Contents). x .last) (register-sound .back s′ s-good)
+
+  took-next : n .number ≡ suc (s .last)
+  took-next = took-last ∙ taken changedLoans ch s s′ p .last
+
+  pub made-good : GoodNumbered n
+  made-good = record { change = gc; some = omega (arith, took-next); most = omega (arith, took-last, s-good .last) }
+
+  -- its record does what it did
+  pub made-applies : applyRecord (recordOf n) s ≡ accept s′
+  made-applies =
+      is-record changedLoans (recordOf n) s (numbered-is n made-good)
+      ∙ rw (numbered-back n made-good, number-back n made-good, next-in-turn (n .number) (s .last) s _ took-next)
+      (next-is-applied n s took-next (made-good .most) ∙ p)
 
 -- ---- calls, with their changes written behind a log that ran to its end
 
@@ -46,13 +73,10 @@ run-follows start (k ∷ ks) area s log position w b h g r e =
       | nothing c a ↦ run-follows start ks _ s log position w a h (g .1) r (rw c at e)
       | change ch s′ gc p c a ↦
           let n : NumberedChange = withLast (callArea register k area .state) ch in
-          let h′ : GoodContents s′ = applied-good ch s s′ gc h p in
-          let l : n .number ≡ s′ .last = ap (λ (x : List ℕ). contentsOf x .last) a ∙ ap (λ (x : Contents). x .last) (register-sound .back s′ h′) in
-          let t : n .number ≡ suc (s .last) = l ∙ taken changedLoans ch s s′ p .last in
-          let gn : GoodNumbered n = record { change = gc; some = omega (arith, t); most = omega (arith, l, h′ .last) } in
           let x = answered (writeRecord n log position) (λ v. writeAll (recordsMade ks (callArea register k area .state)) v) (rw c at e) in
-          run-follows start ks _ s′ (x .0 .log) (x .0 .position) w a h′ (g .1)
-          (write-replay n log position (x .0) (x .1) gn start s r ∙ rw (next-in-turn (n .number) (s .last) s _ t, next-is-applied n s t (gn .most), p)) (x .2)
+          run-follows start ks _ s′ (x .0 .log) (x .0 .position) w a (applied-good ch s s′ gc h p) (g .1)
+          (append-replay applyRecord (recordOf n) (record-short n (made-good ch s s′ _ gc h p a)) log position (x .0)
+          (written n log position (x .0) (x .1) .1) start s r ∙ rw (made-applies ch s s′ _ gc h p a)) (x .2)
     ]
 
 pub live-run : (ks : List Call) (area log : List ℕ) (w : Written) → GoodCalls ks → Below 256 area → isRegister area ≡ true

@@ -23,7 +23,7 @@ use Rattle.loans.specs.Contents.{changedLoans, applied, register}
 use Rattle.loans.specs.Operations.{Operation, GoodOperations, allTold}
 use Rattle.loans.specs.Fields.{Field, fieldBytes}
 use Rattle.loans.specs.Log.{recordsFrom}
-use Rattle.loans.specs.Replay.{ended, goOn, replayFrom, replayed}
+use Rattle.loans.specs.Replay.{replayFrom, replayed}
 use Rattle.loans.specs.Writer.{Written, appended, Appended}
 use Rattle.loans.specs.Records.{codeOf, bodyOf, isRecord}
 use Rattle.loans.specs.PendingLog.{NumberedChange, recordOf, numberIn, behindNumber, isNumbered, numberedOf, writeRecord, inTurn, numbering, applyWith, applyRecord, applyToMap}
@@ -33,7 +33,7 @@ use Rattle.loans.proofs.Place.{four-bytes-back}
 use Rattle.loans.proofs.Numbered.{number-left}
 use Rattle.loans.proofs.Contents.{HeldContents, HoldsContents, held-good, held-self, both-good, with-number, list-changes, register-changes, register-asks, register-sound}
 use Rattle.loans.proofs.Fields.{bytes-in}
-use Rattle.loans.proofs.Replay.{append-writes, append-replay, replay-alike}
+use Rattle.loans.proofs.Replay.{append-writes, replay-alike}
 use Rattle.loans.proofs.Performed.{all-told}
 use Rattle.loans.proofs.Records.{body-length, record-is, change-back, small-value, good-change}
 
@@ -52,7 +52,7 @@ module _ (n : NumberedChange) (g : GoodNumbered n) where
   pub record-short : length (recordOf n .body) < 65536
   record-short = omega (arith, length-append (digits 8 4 (n .number)) (bodyOf (n .change)), head, body-length (n .change) (g .change))
 
-  number-back : numberIn (recordOf n) ≡ n .number
+  pub number-back : numberIn (recordOf n) ≡ n .number
   number-back = ap (value 8) (take-at (digits 8 4 (n .number)) (bodyOf (n .change)) 4 head) ∙ four-bytes-back (n .number) (g .most)
 
   behind-back : drop 4 (recordOf n .body) ≡ bodyOf (n .change)
@@ -182,11 +182,3 @@ module _ (n : NumberedChange) (log : List ℕ) (position : ℕ) (w : Written) (e
 
   pub write-appends : Appended (fieldBytes (recordOf n)) log position w
   write-appends = append-writes (fieldBytes (recordOf n)) log position w (written .1)
-
-  -- the log so far ran to its end: with the record behind it, replay goes on with this one
-  pub write-replay : GoodNumbered n → (s s′ : Contents) → replayFrom applyRecord 0 (take position log) s ≡ record { state = s′; end = ended }
-      → replayFrom applyRecord 0 (take (w .position) (w .log)) s
-      ≡ goOn applyRecord s′ (length (take position log)) (inTurn (n .number) (s′ .last) s′ (numbering changedLoans n s′)) (λ s″. record { state = s″; end = ended })
-  write-replay g s s′ r =
-      append-replay applyRecord (recordOf n) (record-short n g) log position w (written .1) s s′ r
-      ∙ rw (is-record changedLoans (recordOf n) s′ (numbered-is n g), numbered-back n g, number-back n g)

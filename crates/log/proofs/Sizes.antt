@@ -5,11 +5,11 @@ use mathlib.Core.Bool.{Bool, true, false, cond}
 use mathlib.Core.List.{List, [], _∷_}
 use native.Mathlib.Omega.{arith}
 use lib.ListN.{length, getD, take, drop, length-drop}
-use lib.Seq.{getD-drop}
+use lib.Seq.{drop-drop, getD-drop}
 use borrow.Author.Tests.{le-leb, lt-leb}
 use Rattle.iscc.specs.Digits.{value}
-use Rattle.loans.specs.Fields.{firstSize, firstIsWhole}
-use Rattle.loans.proofs.Fields.{size-least}
+use Rattle.loans.specs.Fields.{Field, firstSize, firstIsWhole, firstField}
+use Rattle.loans.proofs.Fields.{size-least, whole-size}
 use Rattle.log.specs.WholeSize.{wholeSize}
 
 two-bytes : (bs : List ℕ) → 3 ≤ length bs → value 8 (take 2 (drop 1 bs)) ≡ 256 * getD bs 1 0 + getD bs 2 0
@@ -65,3 +65,32 @@ is-whole bs n = go (firstIsWhole bs) n
     go : (b : Bool) → (cond b (firstSize bs) 0 ≡ 0 → ⊥) → (b ≡ true) × (cond b (firstSize bs) 0 ≡ firstSize bs)
     go true n = (refl, refl)
     go false n = absurd (n refl)
+
+-- ---- the field at an offset, as the code hands it over
+
+abbrev pub fieldAt : List ℕ → ℕ → ℕ → Field
+fieldAt log offset size = record { tag = getD log offset 0; body = take (offset + size - (offset + 3)) (drop (offset + 3) log) }
+
+pub record FieldThere (log : List ℕ) (offset size : ℕ) : Type 0 where
+  pub whole : firstIsWhole (drop offset log) ≡ true
+  pub size-is : size ≡ firstSize (drop offset log)
+  pub least : 3 ≤ size
+  pub fits : offset + size ≤ length log
+  pub field : fieldAt log offset size ≡ firstField (drop offset log)
+
+pub field-there : (log : List ℕ) (offset : ℕ) → offset ≤ length log → (size : ℕ) → size ≡ wholeSize (drop offset log) → (size ≡ 0 → ⊥)
+    → FieldThere log offset size
+unfolding firstField firstSize
+field-there log offset within size e n =
+    let rest = drop offset log in
+    let w = is-whole rest (λ z. n (e ∙ z)) in
+    let s : size ≡ firstSize rest = e ∙ w .1 in
+    let k : offset + size - (offset + 3) ≡ value 8 (take 2 (drop 1 rest)) = omega (arith, s) in
+    let i : offset + 0 ≡ offset = omega arith in
+    record {
+      whole = w .0;
+      size-is = s;
+      least = omega (arith, s, size-least rest);
+      fits = omega (arith, within, s, whole-size rest (w .0), length-drop offset log);
+      field = rw (k, getD-drop offset log 0 0, i, drop-drop 3 offset log);
+    }

@@ -1,17 +1,17 @@
 -- Replay of a log by the loop's steps: what a record makes of an area is what it makes of the contents.
-use Prim.Native.Nat.{ℕ, suc, _+_, _-_, _≤_, _<_}
+use Prim.Native.Nat.{ℕ, suc, _+_, _≤_, _<_}
 use mathlib.Core.Path.{_≡_, refl, sym, _∙_, ap, subst}
 use mathlib.Core.Bool.{Bool, true, false, cond}
 use mathlib.Core.Logic.{_⊎_, inl, inr}
 use mathlib.Core.List.{List}
 use native.Mathlib.Omega.{arith}
-use lib.ListN.{length, getD, take, drop, length-drop, drop-of-length-le}
-use lib.Seq.{drop-cons, drop-drop, getD-drop}
+use lib.ListN.{length, getD, drop, drop-of-length-le}
+use lib.Seq.{drop-cons, drop-drop}
 use lib.Dec.{eqb, leb}
 use borrow.Author.Tests.{eqb-true}
 use Rattle.iscc.specs.Answer.{Answer, accept, refuse, _>>=_, _>>_, _otherwise_}
 use Rattle.iscc.specs.Refusals.{Refusal, notRegister, notRecord, numberGap}
-use Rattle.iscc.specs.Digits.{Below, value}
+use Rattle.iscc.specs.Digits.{Below}
 use Rattle.iscc.proofs.Answer.{answered, bind-refused, accept-inj, never}
 use Rattle.iscc.proofs.Digits.{below-drop, below-all}
 use Rattle.loans.specs.Register.{changedArea}
@@ -23,7 +23,7 @@ use Rattle.loans.specs.Replay.{End, ended, torn, stopped, endNumber, endOffset,
 use Rattle.loans.specs.Replay as replays
 use Rattle.loans.specs.PendingLog.{NumberedChange, numberIn, isNumbered, numberedOf, inTurn, numbering, applyWith, applyRecord, replayLog}
 use Rattle.loans.proofs.Contents.{register-known, register-sound}
-use Rattle.loans.proofs.Fields.{size-least, whole-size, body-bytes}
+use Rattle.loans.proofs.Fields.{body-bytes}
 use Rattle.loans.proofs.PendingLog.{good-numbered, next-is-applied, record-good}
 use Rattle.loans.proofs.Replay.{replay-end, replay-torn, replay-step}
 use Rattle.register.specs.declared.answer.Changed.{Changed}
@@ -34,7 +34,7 @@ use Rattle.log.specs.WholeSize.{wholeSize}
 use Rattle.log.specs.Representation.{endAs, replayedAs, replayedNumber, replayedOffset}
 use Rattle.log.specs.declared.replay.Replayed.{Replayed}
 use Rattle.log.specs.declared.replay.Replayed.the-variants as ends
-use Rattle.log.proofs.Sizes.{is-torn, is-whole}
+use Rattle.log.proofs.Sizes.{is-torn, fieldAt, FieldThere, field-there}
 
 -- ---- one record on an area, and on its contents
 
@@ -159,36 +159,19 @@ module _ (log area₀ area : List ℕ) (offset : ℕ) (inv : Running log area₀
       ∙ replay-torn applyRecord offset (getD log offset 0) (drop (suc offset) log) (contentsOf area) (ap firstIsWhole (sym d) ∙ is-torn rest (sym e ∙ z)))
 
   module _ (size : ℕ) (e : size ≡ wholeSize rest) (n : size ≡ 0 → ⊥) where
-    whole : firstIsWhole rest ≡ true
-    whole = is-whole rest (λ z. n (e ∙ z)) .0
-
-    size-is : size ≡ firstSize rest
-    size-is = e ∙ is-whole rest (λ z. n (e ∙ z)) .1
-
-    pub size-fits : (3 ≤ size) × (offset + size ≤ length log)
-    size-fits = (omega (arith, size-is, size-least rest), omega (arith, inv .within, size-is, whole-size rest whole, length-drop offset log))
-
-    -- the field at the offset, as the code hands it over
-    abbrev field : Field
-    field = record { tag = getD log offset 0; body = take (offset + size - (offset + 3)) (drop (offset + 3) log) }
-
-    field-is : field ≡ firstField rest
-    unfolding firstField firstSize
-    field-is =
-        let k : offset + size - (offset + 3) ≡ value 8 (take 2 (drop 1 rest)) = omega (arith, size-is) in
-        let i : offset + 0 ≡ offset = omega arith in
-        rw (k, getD-drop offset log 0 0, i, drop-drop 3 offset log)
+    there : FieldThere log offset size
+    there = field-there log offset (inv .within) size e n
 
     -- the replay from here on, by what its first record gives
     abbrev goesOn : Answer Contents → replays.Replayed Contents
     goesOn x = goOn applyRecord (contentsOf area) offset x (λ ps. replayFrom applyRecord (offset + firstSize rest) (drop (firstSize rest) rest) ps)
 
     first-applied : (x : Answer Contents) → applyRecord (firstField rest) (contentsOf area) ≡ x → replayRest rest ≡ goesOn x
-    first-applied x e = replay-step applyRecord offset rest (contentsOf area) whole ∙ ap goesOn e
+    first-applied x e = replay-step applyRecord offset rest (contentsOf area) (there .whole) ∙ ap goesOn e
 
-    module _ (y : Changed) (d : List ℕ) (t : Told (appliedArea field area) area y d) (lb : Below 256 log) where
+    module _ (y : Changed) (d : List ℕ) (t : Told (appliedArea (fieldAt log offset size) area) area y d) (lb : Below 256 log) where
       told : Told (appliedArea (firstField rest) area) area y d
-      told = subst (λ (f : Field). Told (appliedArea f area) area y d) field-is t
+      told = subst (λ (f : Field). Told (appliedArea f area) area y d) (there .field) t
 
       bytes : Below 256 (firstField rest .body)
       bytes = body-bytes rest (below-drop 256 offset log lb)
@@ -206,9 +189,9 @@ module _ (log area₀ area : List ℕ) (offset : ℕ) (inv : Running log area₀
           let r =
           first-applied (accept (contentsOf d)) (g .contents)
           ∙ ap (λ (bs : List ℕ). replayFrom applyRecord (offset + firstSize rest) bs (contentsOf d)) (drop-drop (firstSize rest) offset log)
-          ∙ ap (λ (j : ℕ). replayFrom applyRecord (offset + j) (drop (offset + j) log) (contentsOf d)) (sym size-is) in
+          ∙ ap (λ (j : ℕ). replayFrom applyRecord (offset + j) (drop (offset + j) log) (contentsOf d)) (sym (there .size-is)) in
           record {
-            within = size-fits .1;
+            within = there .fits;
             bytes = below-all 256 d (λ k _. db k);
             valid = g .valid;
             size = register-known d (g .valid) .size ∙ sym (register-known area (inv .valid) .size) ∙ inv .size;

@@ -12,7 +12,7 @@ fn widen(x: u8) -> usize
 }
 
 // The size of the field at an offset; 0 where no whole field stands there.
-pub(crate) fn whole_size(log: &[u8], offset: usize) -> usize
+pub fn whole_size(log: &[u8], offset: usize) -> usize
     requires { ⌜ offset ≤ length (now log) ⌝ }
     ensures { λ r. ⌜ r ≡ wholeSize (drop offset (now (log .entry))) ⌝ }
 {

@@ -2,6 +2,6 @@
 pub mod append;
 mod apply;
 mod check;
-mod field;
+pub mod field;
 pub mod replay;
 pub mod writer;

@@ -23,7 +23,7 @@ pub struct Promotion {
     pub code: Code,
 }
 
-pub(crate) fn grant() -> Promotion
+pub fn grant() -> Promotion
     ensures { λ r. ⌜ r ≡ promotionAs granted ⌝ }
 {
     Promotion {
@@ -32,7 +32,7 @@ pub(crate) fn grant() -> Promotion
     }
 }
 
-pub(crate) fn refuse(q: Refusal) -> Promotion
+pub fn refuse(q: Refusal) -> Promotion
     ensures { λ r. ⌜ r ≡ promotionAs (refused q) ⌝ }
 {
     Promotion {
@@ -41,7 +41,7 @@ pub(crate) fn refuse(q: Refusal) -> Promotion
     }
 }
 
-pub(crate) fn refuse_at(q: Refusal, offset: usize) -> Promotion
+pub fn refuse_at(q: Refusal, offset: usize) -> Promotion
     ensures { λ r. ⌜ r ≡ promotionAs (refusedAt q offset) ⌝ }
 {
     Promotion {

@@ -12,7 +12,7 @@ use iscc::refusal::Refusal;
 use register::number;
 
 // The register that a replay made, and the replica's.
-pub(crate) fn compare(made: &[u8], held: &[u8]) -> Promotion
+pub fn compare(made: &[u8], held: &[u8]) -> Promotion
     requires { ⌜ (isRegister (now made) ≡ true) × (isRegister (now held) ≡ true) ⌝ }
     ensures { λ r. ⌜ r ≡ promotionAs (compared (contentsOf (now (made .entry))) (contentsOf (now (held .entry)))) ⌝ }
 {

@@ -1,5 +1,5 @@
 // May a replica be promoted? The log is replayed from empty, and the register that this gives is held against the replica.
 pub mod answer;
 pub mod check;
-mod compare;
+pub mod compare;
 mod difference;

@@ -1,9 +1,10 @@
 -- `replay::run` meets its contract. The loop's invariant: the records before the offset are applied.
-use Prim.Native.Nat.{_-_, _+_, _≤_}
+use Prim.Native.Nat.{_-_}
 use lib.ListN.{length}
 use borrow.Author.Needs.{needs}
 use Rattle.iscc.proofs.Digits.{below-all}
-use Rattle.log.proofs.Steps.{Running, at-start, ran-out, torn-there, size-fits, stopped-there, one-more}
+use Rattle.log.proofs.Sizes.{FieldThere, field-there}
+use Rattle.log.proofs.Steps.{Running, at-start, ran-out, torn-there, stopped-there, one-more}
 use Rattle.log.proofs.replay.run.Statement.{statement}
 use Rattle.log.proofs.replay.run.Tie as tie
 
@@ -19,10 +20,10 @@ loop-holds c = at-start _ _ (below-all 256 (c .before .before .args .area .now) 
 returns : tie.Need-returns Inv-loop μ-loop
 returns c = torn-there _ _ _ _ (c .before .before .before .loop .inv) (c .before .before .loop-test .taken) _ (c .before .whole-size .ensures) (c .if1 .taken)
 
--- the size of a field that is whole
+-- a field that is whole
 sized : (t : tie.Else1 Inv-loop μ-loop)
-    → (3 ≤ t .before .whole-size .result) × (t .before .before .before .loop .offset + t .before .whole-size .result ≤ length (t .before .before .before .before .before .before .args .log .now))
-sized t = size-fits _ _ _ _ (t .before .before .before .loop .inv) _ (t .before .whole-size .ensures) (t .if1 .left)
+    → FieldThere (t .before .before .before .before .before .before .args .log .now) (t .before .before .before .loop .offset) (t .before .whole-size .result)
+sized t = field-there _ _ (t .before .before .before .loop .inv .within) _ (t .before .whole-size .ensures) (t .if1 .left)
 
 loop-again : tie.Need-loop-again Inv-loop μ-loop
 loop-again c =

@@ -1,0 +1,3 @@
+// Command lines: their words, and the command that they are.
+pub mod command;
+mod words;

@@ -1,0 +1,4 @@
+// The counter's program.
+fn main() {
+    files::counter::run();
+}

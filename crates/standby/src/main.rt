@@ -1,0 +1,4 @@
+// The standby hall's program.
+fn main() {
+    files::standby::run();
+}
