@@ -5,7 +5,7 @@ ghost use Rattle.answers.specs.Answers.{text_in, in_decimal};
 // The longest line, in bytes.
 pub const LONGEST_LINE: usize = 200;
 
-#[derive(Drop)]
+#[derive(Clone, Copy)]
 pub struct Line {
     pub bytes: [u8; 200],
     pub length: usize,

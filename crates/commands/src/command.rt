@@ -11,7 +11,7 @@ use octets::compare::same;
 pub const LONGEST_COMMAND: usize = 2048;
 
 // Why a line is no command.
-#[derive(Drop)]
+#[derive(Clone, Copy)]
 pub enum Fault {
     LongLine,
     NoCommand,
@@ -23,7 +23,7 @@ pub enum Fault {
     BadBorrower,
 }
 
-#[derive(Drop)]
+#[derive(Clone, Copy)]
 pub enum Kind {
     Issue,
     TakeBack,
@@ -33,7 +33,7 @@ pub enum Kind {
 }
 
 // The kind, the part of the line that is the text, and the borrower; nothing and 0 where a command has none.
-#[derive(Drop)]
+#[derive(Clone, Copy)]
 pub struct Command {
     pub kind: Kind,
     pub start: usize,

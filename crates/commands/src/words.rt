@@ -6,7 +6,7 @@ ghost use Rattle.commands.specs.Commands.{not_blank, is_borrower, decimal_value}
 ghost use Rattle.commands.specs.Reading.{Found};
 
 // Where the next word starts and ends. It is empty where no word is left.
-#[derive(Drop)]
+#[derive(Clone, Copy)]
 pub(crate) struct Word {
     pub(crate) start: usize,
     pub(crate) end: usize,
@@ -68,7 +68,7 @@ pub(crate) fn next(line: &[u8], offset: usize) -> Word
 }
 
 // Whether a word is a borrower, and its number; 0 where it is none.
-#[derive(Drop)]
+#[derive(Clone, Copy)]
 pub(crate) struct Borrower {
     pub(crate) is: bool,
     pub(crate) number: u32,

@@ -3,7 +3,7 @@ ghost use Rattle.std.specs.Prelude.{◌≡◌, ◌++◌, ◌+◌, ◌≤◌, len
 ghost use Rattle.composite.specs.Bodies.{parts};
 
 // Its length number, by which the table of sets tells the units in it; its subtype; their bodies in the composite's order, then zeros.
-#[derive(Drop)]
+#[derive(Clone, Copy)]
 pub struct Composite {
     pub length_number: usize,
     pub subtype: u32,

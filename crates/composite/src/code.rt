@@ -28,7 +28,7 @@ fn accepted(code: Code) -> CodeRead
 }
 
 // How many bytes a code has that was written; or why none was, and the refusal's detail, which 15 has none of.
-#[derive(Drop)]
+#[derive(Clone, Copy)]
 pub(crate) enum Coded {
     Length(usize),
     Refused(Refusal, usize),

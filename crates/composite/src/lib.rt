@@ -1,4 +1,6 @@
 // Composites: units joined to one, and one split into its units.
+#![tactic(auto)]
+
 mod bodies;
 pub mod code;
 mod gather;

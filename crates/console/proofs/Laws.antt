@@ -11,10 +11,10 @@ use Rattle.loans.specs.Writer.{Written}
 use Rattle.loans.specs.Replay as loans
 use Rattle.loans.specs.PendingLog.{NumberedChange, write_record}
 use Rattle.loans.proofs.LogPromises.{pending-log}
-use Rattle.log.specs.declared.append.Appended.{Appended}
-use Rattle.log.specs.declared.replay.Replayed.{Replayed}
-use Rattle.log.specs.declared.replay.Replayed.TheVariants as ends
-use Rattle.log.specs.Representation.{appended_as, end_as, replayed_as}
+use Rattle.pending_log.specs.declared.append.Appended.{Appended}
+use Rattle.pending_log.specs.declared.replay.Replayed.{Replayed}
+use Rattle.pending_log.specs.declared.replay.Replayed.TheVariants as ends
+use Rattle.pending_log.specs.Representation.{appended_as, end_as, replayed_as}
 use Rattle.iscc.specs.Representation.{code_as}
 use Rattle.loans.specs.Promotion as promotions
 use Rattle.promotion.specs.declared.answer.Promotion.{Promotion}

@@ -9,7 +9,7 @@ use Rattle.loans.specs.Replay.{ended, torn, stopped, End, Replayed}
 use Rattle.loans.specs.Promotion.{Verdict}
 use Rattle.loans.specs.PromotionOrder.{verdict_answer}
 use Rattle.distance.specs.declared.answer.Measured.{Measured}
-use Rattle.log.specs.declared.append.Appended.{Appended}
+use Rattle.pending_log.specs.declared.append.Appended.{Appended}
 use Rattle.register.specs.declared.answer.Changed.{Changed}
 use Rattle.register.specs.Representation.{changed_number, changed_record}
 use Rattle.promotion.specs.Representation.{offset_told, code_told}

@@ -6,7 +6,7 @@ ghost use Rattle.console.specs.Representation.{distance_answer_as};
 
 // Number 0 is success. A refusal has d 0, n 0 and ratio +0.0.
 #[repr(C)]
-#[derive(Drop)]
+#[derive(Clone, Copy)]
 pub struct DistanceAnswer {
     pub number: u32,
     pub d: u32,

@@ -9,7 +9,7 @@ use register::answer::{Changed, Counts, Holder};
 
 // Number 0 and the record number that the change took; or a refusal and 0.
 #[repr(C)]
-#[derive(Drop)]
+#[derive(Clone, Copy)]
 pub struct ChangeAnswer {
     pub number: u32,
     pub record_number: u32,
@@ -17,7 +17,7 @@ pub struct ChangeAnswer {
 
 // Number 0 and the borrower; or a refusal and 0. And how many places a question looked at.
 #[repr(C)]
-#[derive(Drop)]
+#[derive(Clone, Copy)]
 pub struct HolderAnswer {
     pub number: u32,
     pub borrower: u32,

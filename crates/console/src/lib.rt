@@ -1,4 +1,6 @@
 // The C entries of the standby console: include/iscc.h and include/loans.h declare them.
+#![tactic(auto)]
+
 pub mod codes;
 pub mod composites;
 pub mod distances;

@@ -7,9 +7,9 @@ ghost use Rattle.loans.specs.PendingLog.{NumberedChange, write_record, replay_lo
 ghost use Rattle.console.specs.Representation.{moved_on, record_outcome, replay_answer_as};
 
 use iscc::written::Outcome;
-use log::append;
-use log::append::Appended;
-use log::replay::Replayed;
+use pending_log::append;
+use pending_log::append::Appended;
+use pending_log::replay::Replayed;
 
 // How a replay ended: 0 where it did not begin.
 const RAN: u32 = 1;
@@ -20,7 +20,7 @@ const STOPPED: u32 = 3;
 
 // The number, how it ended, and the offset of the record that is torn or was refused; or 23 and zeros.
 #[repr(C)]
-#[derive(Drop)]
+#[derive(Clone, Copy)]
 pub struct ReplayAnswer {
     pub number: u32,
     pub end: u32,
@@ -72,7 +72,7 @@ pub extern "C" fn loans_replay(log: &[u8], area: &mut [u8]) -> ReplayAnswer
     ensures answer { result ≡ replay_answer_as (replay_log log.now area.old) }
     ensures area { area.new ≡ area_replayed area.old (replay_log log.now area.old) }
 {
-    let answer = log::replay::replay(log, area);
+    let answer = pending_log::replay::replay(log, area);
     match answer {
         Replayed::Ended => ReplayAnswer {
             number: 0,

@@ -8,7 +8,7 @@ use promotion::check;
 
 // Number 0 is yes. An offset in the log, and a code filled up with zeros, where the verdict has one; else zeros.
 #[repr(C)]
-#[derive(Drop)]
+#[derive(Clone, Copy)]
 pub struct PromotionAnswer {
     pub number: u32,
     pub offset: usize,

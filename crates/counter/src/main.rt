@@ -1,4 +1,6 @@
 // The counter's program.
+#![tactic(auto)]
+
 fn main() {
     files::counter::run();
 }

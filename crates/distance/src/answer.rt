@@ -5,7 +5,7 @@ ghost use Rattle.distance.specs.Representation.{distance_as, measure, refused_as
 use iscc::refusal::Refusal;
 
 // The differing bits, the bits compared and their ratio. A refusal has 0, 0 and +0.0.
-#[derive(Drop)]
+#[derive(Clone, Copy)]
 pub struct Distance {
     pub d: u16,
     pub n: u16,
@@ -13,7 +13,7 @@ pub struct Distance {
 }
 
 // Number 0 is success.
-#[derive(Drop)]
+#[derive(Clone, Copy)]
 pub struct Measured {
     pub number: u32,
     pub distance: Distance,

@@ -1,4 +1,6 @@
 // The distance of two units.
+#![tactic(auto)]
+
 pub mod answer;
 mod bits;
 pub mod units;

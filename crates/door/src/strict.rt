@@ -10,7 +10,7 @@ use iscc::written::Written;
 use octets::compare;
 
 // A text that is taken, or why it is not. Its number by the specification: `checked_number` of specs/Representation.antt.
-#[derive(Drop)]
+#[derive(Clone, Copy)]
 pub enum Checked {
     Accepted,
     Refused(Refusal),

@@ -8,7 +8,7 @@ pub const LONGEST_FILE: usize = 4611686018427387904;
 const TRIES: u32 = 4294967295;
 
 // How many bytes were moved, and whether a call failed: a file that cannot be read is not one that ends.
-#[derive(Drop)]
+#[derive(Clone, Copy)]
 pub struct Moved {
     pub count: usize,
     pub failed: bool,

@@ -6,7 +6,7 @@ use libc::STDIN_FILENO;
 use lines::scan::line_length;
 
 // What stands in the area from start to end; whether the input has ended, or could not be read; whether the rest of a line is passed over.
-#[derive(Drop)]
+#[derive(Clone, Copy)]
 pub struct Input {
     pub start: usize,
     pub end: usize,
@@ -16,7 +16,7 @@ pub struct Input {
 }
 
 // What is to be done next: a line that stands from `from` to `to` is served, or not.
-#[derive(Drop)]
+#[derive(Clone, Copy)]
 pub struct Step {
     pub serves: bool,
     pub from: usize,

@@ -7,7 +7,7 @@ use commands::command;
 use commands::command::Kind;
 use hall::standby;
 use loans::layout::REGISTER_LENGTH;
-use log::replay::Replayed;
+use pending_log::replay::Replayed;
 use octets::compare::same;
 
 // One command, on a register that was read.

@@ -3,7 +3,7 @@ use crate::parts;
 use libc::PATH_MAX;
 
 // A path, in front of an area.
-#[derive(Drop)]
+#[derive(Clone, Copy)]
 pub struct Path {
     pub bytes: [u8; PATH_MAX],
     pub length: usize,

@@ -6,7 +6,7 @@ use crate::parts::front;
 use crate::register_file::MODE;
 use crate::{bytes_at, folder};
 use iscc::refusal::Refusal;
-use log::replay::Replayed;
+use pending_log::replay::Replayed;
 use recovery::pieces;
 use recovery::pieces::Fed;
 
@@ -14,7 +14,7 @@ use recovery::pieces::Fed;
 const PIECE: usize = 131072;
 
 // How the replay of a log file ended, unless it could not be read; the number of its last record; and how many bytes it has.
-#[derive(Drop)]
+#[derive(Clone, Copy)]
 pub struct LogRead {
     pub unread: bool,
     pub end: Replayed,
@@ -23,7 +23,7 @@ pub struct LogRead {
 }
 
 // A piece replayed: whether another follows, and the offset where that one starts.
-#[derive(Drop)]
+#[derive(Clone, Copy)]
 struct Turn {
     more: bool,
     offset: usize,

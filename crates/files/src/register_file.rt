@@ -9,7 +9,7 @@ use register::{check, number};
 pub const MODE: u32 = 0o660;
 
 // How a register file was read.
-#[derive(Drop)]
+#[derive(Clone, Copy)]
 pub enum Loaded {
     Length(usize),
     Missing,

@@ -6,14 +6,14 @@ use answers::replies;
 use hall::standby;
 use iscc::refusal::Refusal;
 use loans::layout::REGISTER_LENGTH;
-use log::replay::Replayed;
+use pending_log::replay::Replayed;
 use register::check;
 
 // A snapshot is written where it spares the next start the replay of so many records: docs/RELIABILITY.md has the measurement.
 const SNAPSHOT_AFTER: u32 = 1000;
 
 // A folder at work: the log's descriptor and its length, and the last number of the register file.
-#[derive(Drop)]
+#[derive(Clone, Copy)]
 pub struct OpenLog {
     pub log: i32,
     pub length: usize,

@@ -26,8 +26,8 @@ use Rattle.loans.specs.PendingLog.{record_of, write_record}
 use Rattle.loans.proofs.Loan.{accepted-by, code_in}
 use Rattle.loans.proofs.Records.{body-length}
 use Rattle.loans.proofs.Fields.{length-field}
-use Rattle.log.specs.Representation.{appended_as}
-use Rattle.log.specs.declared.append.Appended.{Appended}
+use Rattle.pending_log.specs.Representation.{appended_as}
+use Rattle.pending_log.specs.declared.append.Appended.{Appended}
 use Rattle.answers.specs.Answers.{value_of}
 use Rattle.hall.specs.Serving.{code_of_typed}
 use Rattle.hall.specs.Said.{record_bytes}

@@ -16,7 +16,7 @@ use answers::replies;
 use commands::command;
 use commands::command::{Fault, Kind};
 use iscc::refusal::Refusal;
-use log::append;
+use pending_log::append;
 use register::answer::{Changed, Holder};
 use register::calls;
 
@@ -25,7 +25,7 @@ pub const LONGEST_RECORD: usize = 53;
 
 // The answer line; how many bytes of a record stand in front of the area for it, 0 where nothing changed; whether the command was
 // refused; and whether the sheet's other lines follow.
-#[derive(Drop)]
+#[derive(Clone, Copy)]
 pub struct Served {
     pub line: Line,
     pub entry: usize,

@@ -15,7 +15,7 @@ use answers::replies;
 use answers::sentences::put_sentence;
 use iscc::code::LONGEST_CODE;
 use iscc::refusal::Refusal;
-use log::replay::Replayed;
+use pending_log::replay::Replayed;
 use promotion::answer::{Promotion, Verdict};
 use register::{check, count, number};
 

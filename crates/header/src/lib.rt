@@ -1,10 +1,12 @@
 // Raw headers: four varnibbles, and a zero nibble behind an odd count of nibbles.
+#![tactic(auto)]
+
 pub mod reader;
 mod rows;
 pub mod writer;
 
 // The four numbers of a raw header, 0 to 4679 where it was read; not yet a main type.
-#[derive(Drop)]
+#[derive(Clone, Copy)]
 pub struct Header {
     pub main_type: u32,
     pub subtype: u32,

@@ -9,20 +9,20 @@ use crate::{Header, rows};
 use iscc::refusal::Refusal;
 
 // A header that was read, and the bytes it took.
-#[derive(Drop)]
+#[derive(Clone, Copy)]
 pub struct RawHeader {
     pub header: Header,
     pub used: usize,
 }
 
-#[derive(Drop)]
+#[derive(Clone, Copy)]
 pub enum HeaderRead {
     Header(RawHeader),
     Refused(Refusal),
 }
 
 // A number that was read, and the nibbles it took. A width of 0: no varnibble stands there.
-#[derive(Drop)]
+#[derive(Clone, Copy)]
 struct Number {
     value: u32,
     width: usize,
@@ -89,7 +89,7 @@ fn number_at(bytes: &[u8], at: usize) -> Number
 }
 
 // The four varnibbles at the front of the bytes, each behind the one before.
-#[derive(Drop)]
+#[derive(Clone, Copy)]
 struct Numbers {
     main_type: Number,
     subtype: Number,

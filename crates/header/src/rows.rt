@@ -4,7 +4,7 @@ ghost use Rattle.iscc.specs.Varnibble.{row_of, row_by};
 ghost use Rattle.header.specs.Representation.{row_as, RowBounds};
 
 // A row: its nibbles, its first number, how many numbers it has, its prefix in front of zero data bits, and 16 to the power of its nibbles.
-#[derive(Drop)]
+#[derive(Clone, Copy)]
 pub struct Row {
     pub width: usize,
     pub first: u32,

@@ -12,7 +12,7 @@ use iscc::refusal::Refusal;
 use iscc::written::Written;
 
 // The low digits of a number, nibbles or bytes: a header of 16 nibbles fits.
-#[derive(Drop)]
+#[derive(Clone, Copy)]
 struct Digits {
     value: u64,
     count: usize,

@@ -64,9 +64,9 @@ pub record PinnedDefinitions : Type 0 where
   -- DATA has a distance (above), INSTANCE has none
   pub instances : distance (0x40 ∷ 0 ∷ 0 ∷ 0 ∷ 0 ∷ 0 ∷ []) (0x40 ∷ 0 ∷ 0 ∷ 0 ∷ 0 ∷ 0 ∷ []) ≡ refuse (refusal 18)
   -- tab, CR and LF are blanks, at both ends
-  pub tabs : intake (ascii "\t_gaaw2_prcrs5_lnvzv\t") 73 ≡ accept (ascii "ISCC:GAAW2PRCRS5LNVZV")
-  pub returns : intake (ascii "\r_gaaw2_prcrs5_lnvzv\r") 73 ≡ accept (ascii "ISCC:GAAW2PRCRS5LNVZV")
-  pub feeds : intake (ascii "\n_gaaw2_prcrs5_lnvzv\n") 73 ≡ accept (ascii "ISCC:GAAW2PRCRS5LNVZV")
+  pub tabs : intake (ascii "\tGAAW2PRCRS5LNVZV\t") 73 ≡ accept (ascii "ISCC:GAAW2PRCRS5LNVZV")
+  pub returns : intake (ascii "\rGAAW2PRCRS5LNVZV\r") 73 ≡ accept (ascii "ISCC:GAAW2PRCRS5LNVZV")
+  pub feeds : intake (ascii "\nGAAW2PRCRS5LNVZV\n") 73 ≡ accept (ascii "ISCC:GAAW2PRCRS5LNVZV")
   -- ID has subtype 5, and not 6
   pub id5 : write_unit (header_with_numbers (number ID) 5 0 0) (ascii "8 bytes.") 10 ≡ accept (0x65 ∷ 0x00 ∷ ascii "8 bytes.")
   pub id6 : write_unit (header_with_numbers (number ID) 6 0 0) (ascii "8 bytes.") 10 ≡ refuse (refusal 8)

@@ -9,21 +9,21 @@ use crate::refusal::Refusal;
 pub const LONGEST_CODE: usize = 42;
 
 // The bytes of one unit or composite, filled up with zeros, and how many they are.
-#[derive(Drop)]
+#[derive(Clone, Copy)]
 pub struct Code {
     pub bytes: [u8; 42],
     pub length: usize,
 }
 
 // Whether there is a code; or why not, and what the refusal tells: an offset, an item's index or a main type's number.
-#[derive(Drop)]
+#[derive(Clone, Copy)]
 pub enum CodeAnswer {
     Accepted,
     Refused(Refusal, usize),
 }
 
 // The code that was read. A refusal has zeros and length 0.
-#[derive(Drop)]
+#[derive(Clone, Copy)]
 pub struct CodeRead {
     pub answer: CodeAnswer,
     pub code: Code,

@@ -6,13 +6,13 @@ ghost use Rattle.iscc.specs.Representation.{named_as, main_type_as};
 use crate::refusal::Refusal;
 
 // A main type of the specification.
-#[derive(Drop)]
+#[derive(Clone, Copy)]
 pub struct MainType {
     number: u8,
 }
 
 // What a number names.
-#[derive(Drop)]
+#[derive(Clone, Copy)]
 pub enum Named {
     MainType(MainType),
     Refused(Refusal),

@@ -5,7 +5,7 @@ ghost use Rattle.iscc.specs.Representation.{outcome_as};
 use crate::refusal::Refusal;
 
 // How many bytes were written, or why none were. The specification's number and length: `number_in` and `length_in` of specs/Representation.antt.
-#[derive(Drop)]
+#[derive(Clone, Copy)]
 pub enum Written {
     Length(usize),
     Refused(Refusal),
@@ -13,7 +13,7 @@ pub enum Written {
 
 // The same for C: number 0 is success, and a refusal has length 0.
 #[repr(C)]
-#[derive(Drop)]
+#[derive(Clone, Copy)]
 pub struct Outcome {
     pub number: u32,
     pub length: usize,

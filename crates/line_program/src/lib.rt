@@ -1,5 +1,7 @@
 // The line program: lines from standard input, an answer to each on standard output. A read or a write that fails ends it, and is
 // told on standard error.
+#![tactic(auto)]
+
 ghost use Rattle.std.specs.Prelude.{◌≡◌, true, ◌≤◌, length};
 ghost use Rattle.lines.specs.Feeding.{begun_line, begun_after, Keeps};
 
@@ -7,7 +9,7 @@ use iscc::written::Written;
 use libc::{STDERR_FILENO, STDIN_FILENO, STDOUT_FILENO};
 
 // The count of the line begun, and whether input may follow.
-#[derive(Drop)]
+#[derive(Clone, Copy)]
 struct Next {
     held: usize,
     more: bool,

@@ -11,7 +11,7 @@ use iscc::refusal::Refusal;
 use iscc::written::Written;
 
 // The count of the line begun, the bytes of the piece that were taken, and the bytes of answers that were written.
-#[derive(Drop)]
+#[derive(Clone, Copy)]
 pub struct Fed {
     pub held: usize,
     pub used: usize,

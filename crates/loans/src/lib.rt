@@ -1,2 +1,4 @@
 // The loans register as definitions and laws (specs/, proofs/), and its layout by name.
+#![tactic(auto)]
+
 pub mod layout;

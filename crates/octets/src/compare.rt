@@ -24,7 +24,7 @@ pub fn same(a: &[u8], b: &[u8]) -> bool
 }
 
 // How one byte string stands to another: byte by byte, and the beginning of a byte string comes before it.
-#[derive(Drop)]
+#[derive(Clone, Copy)]
 pub enum Order {
     Before,
     Same,

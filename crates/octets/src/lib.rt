@@ -1,3 +1,5 @@
 // Byte strings as the layers above use them: compared, put in order, and numbers of a few bytes in them.
+#![tactic(auto)]
+
 pub mod compare;
 pub mod number;

@@ -13,7 +13,7 @@ use iscc::written::Written;
 pub const LONGEST_TYPED: usize = 1024;
 
 // How many bytes were written; or why none were, and for 4 the offset of the first bad character.
-#[derive(Drop)]
+#[derive(Clone, Copy)]
 pub enum PayloadAnswer {
     Length(usize),
     Refused(Refusal, usize),

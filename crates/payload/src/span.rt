@@ -5,7 +5,7 @@ ghost use Rattle.payload.specs.Offsets.{span_of};
 use crate::{scheme, trim};
 
 // The bytes from `from` on, up to but without `to`.
-#[derive(Drop)]
+#[derive(Clone, Copy)]
 pub struct Span {
     pub from: usize,
     pub to: usize,

@@ -10,7 +10,7 @@ use octets::compare;
 use octets::compare::Order;
 
 // Whether the code was found; its place, or the one where it would stand; and how many places were looked at.
-#[derive(Drop)]
+#[derive(Clone, Copy)]
 pub struct Found {
     pub found: bool,
     pub place: usize,

@@ -12,7 +12,7 @@ use iscc::written::Outcome;
 
 // The four numbers of a header and the bytes used. A refusal has zero for every other number.
 #[repr(C)]
-#[derive(Drop)]
+#[derive(Clone, Copy)]
 pub struct Fields {
     pub number: u32,
     pub main_type: u32,

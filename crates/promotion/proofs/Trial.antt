@@ -20,9 +20,9 @@ use Rattle.loans.specs.PendingLog.{replay_log}
 use Rattle.loans.specs.Promotion.{granted, refused, refused_at, difference, by_difference, compared, from_empty, trial_replay, by_end, verdict_of, promotion, work_left, work_after}
 use Rattle.loans.specs.PromotionOrder.{verdict_answer}
 use Rattle.loans.proofs.Promotion.{empty-valid, empty-replayed, from-valid, from_back, trial-yes, trial-23, trial-15}
-use Rattle.log.specs.declared.replay.Replayed.{Replayed}
-use Rattle.log.specs.declared.replay.Replayed.TheVariants as ends
-use Rattle.log.specs.Representation.{end_as, replayed_as}
+use Rattle.pending_log.specs.declared.replay.Replayed.{Replayed}
+use Rattle.pending_log.specs.declared.replay.Replayed.TheVariants as ends
+use Rattle.pending_log.specs.Representation.{end_as, replayed_as}
 use Rattle.promotion.specs.declared.answer.Promotion.{Promotion}
 use Rattle.promotion.specs.declared.answer.Verdict.TheVariants as answers
 use Rattle.promotion.specs.declared.difference.Difference.{Difference}

@@ -9,7 +9,7 @@ use iscc::code::Code;
 use iscc::refusal::Refusal;
 
 // Yes, or why not.
-#[derive(Drop)]
+#[derive(Clone, Copy)]
 pub enum Verdict {
     Granted,
     Refused(Refusal),
@@ -20,7 +20,7 @@ pub enum Verdict {
 }
 
 // The verdict, and its code; zeros and length 0 where it has none.
-#[derive(Drop)]
+#[derive(Clone, Copy)]
 pub struct Promotion {
     pub verdict: Verdict,
     pub code: Code,

@@ -12,8 +12,8 @@ use crate::answer::Promotion;
 use crate::compare::compare;
 use iscc::refusal::Refusal;
 use loans::layout::REGISTER_LENGTH;
-use log::replay;
-use log::replay::Replayed;
+use pending_log::replay;
+use pending_log::replay::Replayed;
 use register::check;
 
 // Zeros: an empty register.

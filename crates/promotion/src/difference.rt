@@ -18,14 +18,14 @@ use places::search::look;
 use register::count;
 
 // Whether there is one, and its code.
-#[derive(Drop)]
+#[derive(Clone, Copy)]
 pub(crate) struct Difference {
     pub(crate) found: bool,
     pub(crate) code: Code,
 }
 
 // Which of two loans has the lesser code that differs; none where they are the same.
-#[derive(Drop)]
+#[derive(Clone, Copy)]
 enum Side {
     Neither,
     First,

@@ -3,21 +3,21 @@
 use iscc::refusal::Refusal;
 
 // An issue or a return: done, with the record number that it took, or why it was not.
-#[derive(Drop)]
+#[derive(Clone, Copy)]
 pub enum Changed {
     Done(u32),
     Refused(Refusal),
 }
 
 // Who has a code, or why that is not told.
-#[derive(Drop)]
+#[derive(Clone, Copy)]
 pub enum Holder {
     Borrower(u32),
     Refused(Refusal),
 }
 
 // What a question answers. The looks are told where the code is out and where it is not, and are 0 with every other refusal.
-#[derive(Drop)]
+#[derive(Clone, Copy)]
 pub struct Asked {
     pub holder: Holder,
     pub looks: u32,
@@ -25,7 +25,7 @@ pub struct Asked {
 
 // How many codes are out, in all and by main type, with number 0; or a refusal and zeros. It is what C gets, too.
 #[repr(C)]
-#[derive(Drop)]
+#[derive(Clone, Copy)]
 pub struct Counts {
     pub number: u32,
     pub out: u32,

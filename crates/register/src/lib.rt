@@ -1,4 +1,6 @@
 // The loans register in a lent area: whether an area is one, and its calls.
+#![tactic(auto)]
+
 mod admit;
 pub mod answer;
 pub mod calls;

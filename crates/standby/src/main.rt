@@ -1,4 +1,6 @@
 // The standby hall's program.
+#![tactic(auto)]
+
 fn main() {
     files::standby::run();
 }

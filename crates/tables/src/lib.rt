@@ -1,4 +1,6 @@
 // The two constant tables of the specification: the base32 alphabet and the eight sets of units in a composite.
+#![tactic(auto)]
+
 ghost use Rattle.std.specs.Prelude.{◌≡◌, ◌≤◌, ◌<◌};
 ghost use Rattle.iscc.specs.Base32.{base32};
 ghost use Rattle.iscc.specs.Permitted.{set_of, unit_count};
@@ -16,7 +18,7 @@ pub fn alphabet() -> [u8; 32]
 }
 
 // The main types of the units in a composite, in their order, then ID as filling; and how many bodies it has.
-#[derive(Drop)]
+#[derive(Clone, Copy)]
 pub struct UnitSet {
     pub units: [MainType; 5],
     pub count: u8,

@@ -12,7 +12,7 @@ use iscc::main_type::{MainType, Named};
 use iscc::refusal::Refusal;
 
 // An item that was read. Its body is the bytes from `start` to `used`.
-#[derive(Drop)]
+#[derive(Clone, Copy)]
 pub struct Unit {
     pub main_type: MainType,
     pub subtype: u32,
@@ -22,7 +22,7 @@ pub struct Unit {
     pub used: usize,
 }
 
-#[derive(Drop)]
+#[derive(Clone, Copy)]
 pub enum UnitRead {
     Unit(Unit),
     Refused(Refusal),

@@ -10,14 +10,14 @@ use iscc::refusal::Refusal;
 use unit::reader::UnitRead;
 
 // Every item was read; or the refusal of the first that is refused, and its index.
-#[derive(Drop)]
+#[derive(Clone, Copy)]
 pub enum Reading {
     Items,
     Refused(Refusal, usize),
 }
 
 // What was read. A refusal's summary is that of the items before.
-#[derive(Drop)]
+#[derive(Clone, Copy)]
 pub struct ListRead {
     pub answer: Reading,
     pub list: Summary,

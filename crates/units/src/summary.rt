@@ -5,7 +5,7 @@ ghost use Rattle.units.specs.Summary.{empty_summary, advanced, is_joinable, is_s
 use iscc::main_type::MainType;
 
 // An index is that of the first item that breaks a rule of the list, and the count of items where none does.
-#[derive(Drop)]
+#[derive(Clone, Copy)]
 pub struct Summary {
     pub count: usize,
     // a composite or an ID

@@ -8,7 +8,7 @@ use iscc::main_type::MainType;
 use iscc::refusal::Refusal;
 
 // The list makes a composite; or why not, and where: an item's index, or for 13 the number of the main type that is missing.
-#[derive(Drop)]
+#[derive(Clone, Copy)]
 pub enum Verdict {
     Composite,
     Refused(Refusal, usize),

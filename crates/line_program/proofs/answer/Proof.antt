@@ -71,8 +71,8 @@ returns c = λ e. absurd (false≢true e)
 returns-2 : tie.Need-returns-2 invariant-loop decreases-loop
 returns-2 c = λ _. keeps-all _ _ _ _ _ c.before.before.loop.invariant.4 c.before.loop-test.false
 
-pub answer-spec : {M : Type 1} → statement M
-answer-spec =
+pub answer_spec : {M : Type 1} → statement M
+answer_spec =
     tie.close
     (tie.spec
     invariant-loop

@@ -13,8 +13,8 @@ invariant-loop line₀ held₀ turns₀ line held turns = (1024 ≤ length line�
 abbrev decreases-loop : tie.decreases-loop
 decreases-loop line₀ held₀ turns₀ line held turns = turns
 
-pub answer-all-spec : {M : Type 1} → statement M
-answer-all-spec =
+pub answer_all_spec : {M : Type 1} → statement M
+answer_all_spec =
     tie.close
     (tie.spec
     invariant-loop

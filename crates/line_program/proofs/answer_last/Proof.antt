@@ -12,8 +12,8 @@ part-put-end c =
     let s = f.before.before.before.before in
     written-within (finishing (length s.args.out.now) (begun_line s.args.line.now s.args.held)) s.args.out.now _ _ _ f.finish.ensures.0 f.finish.ensures.1 c.before.before.n.given.1
 
-pub answer-last-spec : {M : Type 1} → statement M
-answer-last-spec =
+pub answer_last_spec : {M : Type 1} → statement M
+answer_last_spec =
     tie.close
     (tie.spec
     (λ c κs. search rules)

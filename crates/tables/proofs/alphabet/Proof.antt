@@ -8,5 +8,5 @@ returns : tie.Need-returns
 unfolding base32
 returns c = refl
 
-pub alphabet-spec : {M : Type 1} → statement M
-alphabet-spec = tie.close (tie.spec returns)
+pub alphabet_spec : {M : Type 1} → statement M
+alphabet_spec = tie.close (tie.spec returns)

@@ -6,8 +6,8 @@ use Rattle.iscc.proofs.Permitted.{set_past}
 use Rattle.tables.proofs.row_of.Statement.{statement}
 use Rattle.tables.proofs.row_of.Tie as tie
 
-returns-2 : tie.Need-returns-2
-returns-2 c = (omega arith, sym (set_past _ c.if1.false))
+returns-2 : tie.Need-returns
+returns-2 c = (omega arith, sym (set_past _ c.if-length_number-lt8.false))
 
-pub row-of-spec : {M : Type 1} → statement M
-row-of-spec = tie.close (tie.spec (λ c. search rules) returns-2)
+pub row_of_spec : {M : Type 1} → statement M
+row_of_spec = tie.close (tie.spec (λ c. search rules) returns-2)

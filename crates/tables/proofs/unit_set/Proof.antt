@@ -22,9 +22,9 @@ bounded r k l e s =
 returns : tie.Need-returns
 unfolding unit_set_as set_of sets unit_types
 returns c =
-    let row = c.before.row_of in
+    let row = c.before.row_of-row in
     let k : ℕ = row.result in
-    bounded _ k c.before.before.args.length-number (entry of _ 8 k row.ensures.0) row.ensures.1
+    bounded _ k c.before.before.args.length_number (entry of _ 8 k row.ensures.0) row.ensures.1
 
-pub unit-set-spec : {M : Type 1} → statement M
-unit-set-spec = tie.close (tie.spec (λ c κs. search rules) (λ c. search rules) (λ c. search rules) returns)
+pub unit_set_spec : {M : Type 1} → statement M
+unit_set_spec = tie.close (tie.spec (λ c κs. search rules) (λ c. search rules) (λ c. search rules) returns)

@@ -31,8 +31,8 @@ returns c =
     let e = filled-all _ _ _ _ l.loop.invariant (search rules) in
     (c.put.ensures.0 ∙ ap (λ (p : List ℕ). take 200 (text_in l.before.args.line ++ p)) e, c.put.ensures.1)
 
-pub put-number-spec : {M : Type 1} → statement M
-put-number-spec =
+pub put_number_spec : {M : Type 1} → statement M
+put_number_spec =
     tie.close
     (tie.spec
     invariant-loop

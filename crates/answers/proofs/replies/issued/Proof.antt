@@ -23,8 +23,8 @@ returns c =
     (put_last (in_decimal s.args.number) c.put-number2.ensures.0))))))
     (length-issued s.args.text.now s.requires s.args.borrower s.args.number)
 
-pub issued-spec : {M : Type 1} → statement M
-issued-spec =
+pub issued_spec : {M : Type 1} → statement M
+issued_spec =
     tie.close
     (tie.spec
     (λ c κs. search rules)

@@ -20,8 +20,8 @@ returns c =
     (put_last (in_decimal s.args.borrower) c.put-number.ensures.0))))
     (length-out s.args.text.now s.requires s.args.borrower)
 
-pub out-spec : {M : Type 1} → statement M
-out-spec =
+pub out_spec : {M : Type 1} → statement M
+out_spec =
     tie.close
     (tie.spec
     (λ c κs. search rules)

@@ -21,8 +21,8 @@ returns c =
     (put_last (sentence q.number) c.put-sentence.ensures.0))))
     (length-refused q)
 
-pub refused-spec : {M : Type 1} → statement M
-refused-spec =
+pub refused_spec : {M : Type 1} → statement M
+refused_spec =
     tie.close
     (tie.spec
     (λ c κs. search rules)

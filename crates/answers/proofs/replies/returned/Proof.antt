@@ -20,8 +20,8 @@ returns c =
     (put_last (in_decimal s.args.number) c.put-number.ensures.0))))
     (length-returned s.args.text.now s.requires s.args.number)
 
-pub returned-spec : {M : Type 1} → statement M
-returned-spec =
+pub returned_spec : {M : Type 1} → statement M
+returned_spec =
     tie.close
     (tie.spec
     (λ c κs. search rules)

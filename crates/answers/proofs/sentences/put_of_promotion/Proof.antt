@@ -5,9 +5,9 @@ use Rattle.answers.proofs.Others.{others-promotion}
 use Rattle.answers.proofs.sentences.put_of_promotion.Statement.{statement}
 use Rattle.answers.proofs.sentences.put_of_promotion.Tie as tie
 
-pub put-of-promotion-spec : {M : Type 1} → statement M
+pub put_of_promotion_spec : {M : Type 1} → statement M
 unfolding sentence promotion_sentences
-put-of-promotion-spec =
+put_of_promotion_spec =
     tie.close
     (tie.spec
     (λ c. search rules)

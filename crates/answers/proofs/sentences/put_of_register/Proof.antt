@@ -5,9 +5,9 @@ use Rattle.answers.proofs.Others.{others-register}
 use Rattle.answers.proofs.sentences.put_of_register.Statement.{statement}
 use Rattle.answers.proofs.sentences.put_of_register.Tie as tie
 
-pub put-of-register-spec : {M : Type 1} → statement M
+pub put_of_register_spec : {M : Type 1} → statement M
 unfolding sentence register_sentences
-put-of-register-spec =
+put_of_register_spec =
     tie.close
     (tie.spec
     (λ c. search rules)

@@ -5,9 +5,9 @@ use Rattle.answers.proofs.Others.{others-text}
 use Rattle.answers.proofs.sentences.put_of_text.Statement.{statement}
 use Rattle.answers.proofs.sentences.put_of_text.Tie as tie
 
-pub put-of-text-spec : {M : Type 1} → statement M
+pub put_of_text_spec : {M : Type 1} → statement M
 unfolding sentence text_sentences
-put-of-text-spec =
+put_of_text_spec =
     tie.close
     (tie.spec
     (λ c. search rules)

@@ -13,25 +13,25 @@ use Rattle.base32.proofs.Characters.{all-inside}
 use Rattle.base32.proofs.reader.all_digits.Statement.{statement}
 use Rattle.base32.proofs.reader.all_digits.Tie as tie
 
-abbrev invariant-loop : tie.invariant-loop
+abbrev invariant-loop : tie.invariant-loop-i
 invariant-loop text most₀ i₀ most i = Largest (λ c. cond (is_digit base32 c) 0 1) 1 text i most
 
-abbrev decreases-loop : tie.decreases-loop
+abbrev decreases-loop : tie.decreases-loop-i
 decreases-loop text most₀ i₀ most i = length text - i
 
-loop-holds : tie.Need-loop-init invariant-loop decreases-loop
+loop-holds : tie.Need-loop-i-init invariant-loop decreases-loop
 loop-holds c = largest-none _ _ _ (omega arith)
 
-loop-again : tie.Need-loop-preserved invariant-loop decreases-loop
+loop-again : tie.Need-loop-i-preserved invariant-loop decreases-loop
 loop-again c =
     let d = c.before in
-    let s = d.before.before.before.loop.invariant in
-    ⊎_elim (λ w. rw w.1 (largest-new _ s (search rules) d.outside-alphabet.ensures w.0.taken)) (λ w. rw w.1 (largest-kept _ s (search rules) d.outside-alphabet.ensures w.0.left)) c.if1.branch
+    let s = d.before.before.before.loop-i.invariant in
+    ⊎_elim (λ w. rw w.1 (largest-new _ s (search rules) d.outside_alphabet-bad.ensures w.0.taken)) (λ w. rw w.1 (largest-kept _ s (search rules) d.outside_alphabet-bad.ensures w.0.left)) c.if-most-bad.branch
 
 returns : tie.Need-returns invariant-loop decreases-loop
 unfolding base32
-returns c = largest-all c.before.loop.invariant c.loop-test.false ∙ all-inside c.before.before.before.args.text.now
+returns c = largest-all c.before.loop-i.invariant c.loop-i-test.false ∙ all-inside c.before.before.before.args.text.now
 
-pub all-digits-spec : {M : Type 1} → statement M
-all-digits-spec =
+pub all_digits_spec : {M : Type 1} → statement M
+all_digits_spec =
     tie.close (tie.spec invariant-loop decreases-loop loop-holds (λ c. search rules) (λ c κs. search rules) (λ c. search rules) (λ c. search rules) loop-again returns)

@@ -9,5 +9,5 @@ returns : tie.Need-returns
 unfolding byte_count
 returns c = omega arith
 
-pub byte-length-spec : {M : Type 1} → statement M
-byte-length-spec = tie.close (tie.spec (λ c. search rules) (λ c. search rules) (λ c. search rules) returns)
+pub byte_length_spec : {M : Type 1} → statement M
+byte_length_spec = tie.close (tie.spec (λ c. search rules) (λ c. search rules) (λ c. search rules) returns)

@@ -26,11 +26,11 @@ by_bits c h d =
     let p = both_true (leb (c / 64 * 9) (c % 32 + 8)) (eqb (c % 32 + 8 - c / 64 * 9) (digit_in base32 c)) (rw (lt-ltb (digit_in base32 c) 32 d) at (at 256 agrees computed c h)) in
     (leb-true (c / 64 * 9) (c % 32 + 8) p.0, eqb-true (c % 32 + 8 - c / 64 * 9) (digit_in base32 c) p.1)
 
-sub-result : tie.Need-overflow-sub-result
+sub-result : tie.Need-overflow_sub-result
 sub-result c = (by_bits c.args.c c.ranges.c.fits c.requires).0
 
 returns : tie.Need-returns
 returns c = let e = (by_bits c.args.c c.ranges.c.fits c.requires).1 in (e, rw e c.requires)
 
-pub digit-spec : {M : Type 1} → statement M
-digit-spec = tie.close (tie.spec (λ c. search rules) (λ c. search rules) sub-result (λ c. search rules) returns)
+pub digit_spec : {M : Type 1} → statement M
+digit_spec = tie.close (tie.spec (λ c. search rules) (λ c. search rules) sub-result (λ c. search rules) returns)

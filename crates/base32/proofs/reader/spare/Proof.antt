@@ -29,11 +29,11 @@ rest-spare n =
     let e : n / 8 * 5 * 8 + n % 8 * 5 ≡ 5 * n = omega arith in
     sym (mul-add-mod_self_right (n / 8 * 5) 8 (n % 8 * 5)) ∙ ap (λ (x : ℕ). x % 8) e
 
-returns : tie.Need-returns
+returns : tie.Need-returns-then-n-eq0
 unfolding value
 returns c =
     let a = c.before.before.args in
-    let e : a.text.now ≡ [] = empty_of a.text.now c.if1.true in
+    let e : a.text.now ≡ [] = empty_of a.text.now c.if-n-eq0.true in
     rw e (sym (zero-mod _))
 
 digit-requires : tie.Need-digit-requires
@@ -43,12 +43,12 @@ digit-requires c κs =
     let i : ℕ = length t - 1 in
     rw (map_at (digit_in base32) t i 0 0 (omega arith)) at (below_at 32 (map (digit_in base32) t) i b.before.requires.0 (omega (arith, length-map t (digit_in base32))))
 
-rem-result : tie.Need-nonzero-rem-result
+rem-result : tie.Need-nonzero_rem-result
 rem-result c =
     let k : ℕ = length c.before.before.before.before.args.text.now % 8 * 5 % 8 in
     omega (arith, one_shifted k (omega arith), pow_pos k)
 
-returns-2 : tie.Need-returns-2
+returns-2 : tie.Need-returns
 returns-2 c =
     let a = c.before.before.before.before in
     let t : List ℕ = a.args.text.now in
@@ -60,5 +60,5 @@ returns-2 c =
     let e : get_or ds (n - 1) 0 ≡ c.digit.result = map_at (digit_in base32) t (n - 1) 0 0 (omega arith) ∙ sym c.digit.ensures.0 in
     rw (k, one_shifted (spare_count 5 n) (omega (arith, a.requires.1))) (sym (rw (len, e) at l))
 
-pub spare-spec : {M : Type 1} → statement M
-spare-spec = tie.close (tie.spec returns (λ c. search rules) (λ c. search rules) (λ c. search rules) digit-requires (λ c. search rules) rem-result returns-2)
+pub spare_spec : {M : Type 1} → statement M
+spare_spec = tie.close (tie.spec returns (λ c. search rules) (λ c. search rules) (λ c. search rules) digit-requires (λ c. search rules) rem-result returns-2)

@@ -4,14 +4,14 @@ use Rattle.iscc.proofs.Base32.{bad-count}
 use Rattle.base32.proofs.reader.whole_count.Statement.{statement}
 use Rattle.base32.proofs.reader.whole_count.Tie as tie
 
-returns : tie.Need-returns
-returns c = rw bad-count (simp (eq-eqb _ _ c.if1.true))
+returns : tie.Need-returns-then-over-eq1
+returns c = rw bad-count (simp (eq-eqb _ _ c.if-over-eq1.true))
 
-returns-2 : tie.Need-returns-2
-returns-2 c = rw bad-count (simp (ne_eqb _ _ c.before.if1.false, eq-eqb _ _ c.if2.true))
+returns-2 : tie.Need-returns-then-over-eq3
+returns-2 c = rw bad-count (simp (ne_eqb _ _ c.before.if-over-eq1.false, eq-eqb _ _ c.if-over-eq3.true))
 
-returns-3 : tie.Need-returns-3
-returns-3 c = rw bad-count (simp (ne_eqb _ _ c.before.if1.false, ne_eqb _ _ c.if2.false))
+returns-3 : tie.Need-returns
+returns-3 c = rw bad-count (simp (ne_eqb _ _ c.before.if-over-eq1.false, ne_eqb _ _ c.if-over-eq3.false))
 
-pub whole-count-spec : {M : Type 1} → statement M
-whole-count-spec = tie.close (tie.spec returns returns-2 returns-3)
+pub whole_count_spec : {M : Type 1} → statement M
+whole_count_spec = tie.close (tie.spec returns returns-2 returns-3)

@@ -7,8 +7,8 @@ use Rattle.base32.proofs.reader.word.Tie as tie
 returns : tie.Need-returns
 returns c =
     let a = c.before.before.before.args in
-    two-fours a.text.now a.at _ _ (search rules) c.before.load.ensures.0 c.load2.ensures.0
+    two-fours a.text.now a.at _ _ (search rules) c.before.load.ensures.0 c.load-2.ensures.0
 
-pub word-spec : {M : Type 1} → statement M
-word-spec =
+pub word_spec : {M : Type 1} → statement M
+word_spec =
     tie.close (tie.spec (λ c κs. search rules) (λ c. search rules) (λ c. search rules) (λ c κs. search rules) (λ c. search rules) returns)

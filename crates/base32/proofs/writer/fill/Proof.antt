@@ -32,68 +32,68 @@ rest-digits : (k : ℕ) → (k * 8 + 4) / 5 ≡ digit_count 5 k
 unfolding digit_count
 rest-digits k = omega arith
 
-abbrev invariant-loop : tie.invariant-loop
+abbrev invariant-loop : tie.invariant-loop-i
 invariant-loop bytes out₀ alphabet n i₀ o₀ out i o = Encoded base32 pos bytes out₀ out i o
 
-abbrev decreases-loop : tie.decreases-loop
+abbrev decreases-loop : tie.decreases-loop-i
 decreases-loop bytes out₀ alphabet n i₀ o₀ out i o = n - i
 
-loop-holds : tie.Need-loop-init invariant-loop decreases-loop
+loop-holds : tie.Need-loop-i-init invariant-loop decreases-loop
 loop-holds c = encoded-none base32 pos _ _
 
 put-requires : tie.Need-put-requires invariant-loop decreases-loop
 unfolding base32
 put-requires c κs =
     let in-loop = c.before.before.before in
-    let s = in-loop.before.loop.invariant in
-    (in-loop.before.before.alphabet.ensures, (omega arith, omega (arith, length-written s.is, group-room _ _ _ s.whole s.within in-loop.loop-test.true)))
+    let s = in-loop.before.loop-i.invariant in
+    (in-loop.before.before.alphabet-alphabet.ensures, (omega arith, omega (arith, length-written s.is, group-room _ _ _ s.whole s.within in-loop.loop-i-test.true)))
 
-add-o : tie.Need-overflow-add-o invariant-loop decreases-loop
+add-o : tie.Need-overflow_add-o invariant-loop decreases-loop
 unfolding base32
 add-o c =
     let in-loop = c.before.before.before.before.before.before in
-    let s = in-loop.before.loop.invariant in
-    omega (arith, group-room _ _ _ s.whole s.within in-loop.loop-test.true)
+    let s = in-loop.before.loop-i.invariant in
+    omega (arith, group-room _ _ _ s.whole s.within in-loop.loop-i-test.true)
 
-bytes_below : (c : tie.After-slice-known invariant-loop decreases-loop) → Below 256 c.before.before.args.bytes.now
-bytes_below c = below_all 256 c.before.before.args.bytes.now (λ k _. (c.before.shared-slice-known.given k).fits)
+bytes_below : (c : tie.After-slice_known-1 invariant-loop decreases-loop) → Below 256 c.before.before.args.bytes.now
+bytes_below c = below_all 256 c.before.before.args.bytes.now (λ k _. (c.before.shared_slice_known-1.given k).fits)
 
-loop-again : tie.Need-loop-preserved invariant-loop decreases-loop
+loop-again : tie.Need-loop-i-preserved invariant-loop decreases-loop
 unfolding base32
 loop-again c =
     let put = c.before.before in
     let load = put.before.before in
     let at = load.before.before.before in
-    let s = at.loop.invariant in
-    encoded-group base32 pos _ _ 5 8 load.load.result s (bytes_below at.before.before) (omega (arith, group-room _ _ _ s.whole s.within load.before.before.loop-test.true)) load.load.ensures.0
+    let s = at.loop-i.invariant in
+    encoded-group base32 pos _ _ 5 8 load.load.result s (bytes_below at.before.before) (omega (arith, group-room _ _ _ s.whole s.within load.before.before.loop-i-test.true)) load.load.ensures.0
     refl (omega arith) put.put.ensures
 
 put-requires-2 : tie.Need-put-requires-2 invariant-loop decreases-loop
 unfolding base32
 put-requires-2 c κs =
     let at = c.before.before.before.before in
-    let s = at.loop.invariant in
-    (at.before.alphabet.ensures, (omega arith, omega (arith, length-written s.is, rest-count _ _ _ s.whole s.within)))
+    let s = at.loop-i.invariant in
+    (at.before.alphabet-alphabet.ensures, (omega arith, omega (arith, length-written s.is, rest-count _ _ _ s.whole s.within)))
 
 -- all is written
-done : (c : tie.After-put2 invariant-loop decreases-loop) →
+done : (c : tie.After-put-2 invariant-loop decreases-loop) →
     let at = c.before.before.before.before.before in
-    WrittenFront (encode base32 at.before.before.before.before.args.bytes.now) at.before.before.before.before.args.out.now c.put2.new.1.1.1.0 (digit_count 5 (length at.before.before.before.before.args.bytes.now))
+    WrittenFront (encode base32 at.before.before.before.before.args.bytes.now) at.before.before.before.before.args.out_1.now c.put-2.new.1.1.1.0 (digit_count 5 (length at.before.before.before.before.args.bytes.now))
 unfolding base32
 done c =
     let load = c.before.before in
     let at = load.before.before.before in
-    let s = at.loop.invariant in
+    let s = at.loop-i.invariant in
     let n : ℕ = length at.before.before.before.before.args.bytes.now in
-    let k : ℕ = n - at.loop.i in
+    let k : ℕ = n - at.loop-i.i in
     let m : ℕ = (k * 8 + 4) / 5 in
     let z : m * 5 - k * 8 ≡ 5 * m - 8 * k = omega arith in
-    let e = rest-count n at.loop.i at.loop.o s.whole s.within in
+    let e = rest-count n at.loop-i.i at.loop-i.o s.whole s.within in
     rw e at
-    (encoded-rest base32 pos _ _ k m load.load2.result s (bytes_below at.before.before) (omega arith) load.load2.ensures.0
-    _ (rest-digits k) (omega arith) (shl_exact (8 * k) (m * 5 - k * 8) 64 load.load2.ensures.1 (omega arith) ∙ rw z) c.put2.ensures)
+    (encoded-rest base32 pos _ _ k m load.load-2.result s (bytes_below at.before.before) (omega arith) load.load-2.ensures.0
+    _ (rest-digits k) (omega arith) (shl_exact (8 * k) (m * 5 - k * 8) 64 load.load-2.ensures.1 (omega arith) ∙ rw z) c.put-2.ensures)
 
-same_length : tie.Need-same-length invariant-loop decreases-loop
+same_length : tie.Need-shape_of-out invariant-loop decreases-loop
 same_length c = length-written (done c.before.before)
 
 returns : tie.Need-returns invariant-loop decreases-loop

@@ -9,5 +9,5 @@ returns : tie.Need-returns
 unfolding digit_count
 returns c = omega arith
 
-pub text-length-spec : {M : Type 1} → statement M
-text-length-spec = tie.close (tie.spec (λ c. search rules) (λ c. search rules) (λ c. search rules) (λ c. search rules) returns)
+pub text_length_spec : {M : Type 1} → statement M
+text_length_spec = tie.close (tie.spec (λ c. search rules) (λ c. search rules) (λ c. search rules) (λ c. search rules) returns)

@@ -10,30 +10,30 @@ use Rattle.iscc.proofs.Filling.{too_short, filled}
 use Rattle.base32.proofs.writer.write.Statement.{statement}
 use Rattle.base32.proofs.writer.write.Tie as tie
 
-returns : tie.Need-returns
+returns : tie.Need-returns-then-out-count
 unfolding base32
 returns c =
     let a = c.before.before.before.before.args in
-    too_short (encode base32 a.bytes.now) a.out.now (omega (arith, length-encode base32 a.bytes.now, c.if1.true)) refl
+    too_short (encode base32 a.bytes.now) a.out-1.now (omega (arith, length-encode base32 a.bytes.now, c.if-out-count.true)) refl
 
 -- the text is written
 done : (c : tie.After-fill) →
     let a = c.before.before.before.before.before.before.args in
-    WrittenFront (encode base32 a.bytes.now) a.out.now c.fill.new.1.0 c.before.before.before.text-length.result
+    WrittenFront (encode base32 a.bytes.now) a.out-1.now c.fill.new.1.0 c.before.before.before.text_length-count.result
 unfolding base32
 done c =
     let t = c.before.before.before in
     let a = t.before.before.before.args in
     record {
-      count = length-encode base32 a.bytes.now ∙ sym t.text-length.ensures;
-      room = c.before.before.if1.false;
-      is = rw t.text-length.ensures c.fill.ensures;
+      count = length-encode base32 a.bytes.now ∙ sym t.text_length-count.ensures;
+      room = c.before.before.if-out-count.false;
+      is = rw t.text_length-count.ensures c.fill.ensures;
     }
 
-same_length : tie.Need-same-length
+same_length : tie.Need-shape_of-out
 same_length c = length-written (done c.before.before)
 
-returns-2 : tie.Need-returns-2
+returns-2 : tie.Need-returns
 returns-2 c = filled (done c.before.before) refl
 
 pub write_spec : {M : Type 1} → statement M

@@ -37,8 +37,8 @@ returns-5 c =
     by-none _ _ _ _ _ first.before.same.ensures first.if1.false _ second.before.same2.ensures second.if2.false
     _ third.before.same3.ensures third.if3.false _ fourth.before.same4.ensures fourth.if4.false c.faulty.ensures
 
-pub by-word-spec : {M : Type 1} → statement M
-by-word-spec =
+pub by_word_spec : {M : Type 1} → statement M
+by_word_spec =
     tie.close
     (tie.spec
     (λ c. search rules)

@@ -19,8 +19,8 @@ returns-4 c =
     issue-other _ _ _ _ second.before.next.ensures _ _ second.next2.ensures _ _ third.next3.ensures third.before.if1.false
     tested.before.before.before.if2.false _ _ tested.before.read-borrower.ensures _ tested.if3.false c.faulty3.ensures
 
-pub issue-spec : {M : Type 1} → statement M
-issue-spec =
+pub issue_spec : {M : Type 1} → statement M
+issue_spec =
     tie.close
     (tie.spec
     (λ c κs. search rules)

@@ -4,8 +4,8 @@ use Rattle.commands.proofs.Reading.{sheet-many, sheet-read}
 use Rattle.commands.proofs.command.sheet.Statement.{statement}
 use Rattle.commands.proofs.command.sheet.Tie as tie
 
-pub sheet-spec : {M : Type 1} → statement M
-sheet-spec =
+pub sheet_spec : {M : Type 1} → statement M
+sheet_spec =
     tie.close
     (tie.spec
     (λ c κs. search rules)

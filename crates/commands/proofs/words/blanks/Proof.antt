@@ -25,8 +25,8 @@ returns c =
     let test = c.before.before.before in
     (failed test.before.loop.invariant test.loop-test.true (sym c.before.is-blank.ensures ∙ c.if1.false), omega arith)
 
-pub blanks-spec : {M : Type 1} → statement M
-blanks-spec =
+pub blanks_spec : {M : Type 1} → statement M
+blanks_spec =
     tie.close
     (tie.spec
     invariant-loop

@@ -7,6 +7,6 @@ use Rattle.commands.proofs.words.is_blank.Tie as tie
 
 ruleset tests = (eq-eqb, ne_eqb, or-true)
 
-pub is-blank-spec : {M : Type 1} → statement M
+pub is_blank_spec : {M : Type 1} → statement M
 unfolding is_blank
-is-blank-spec = tie.close (tie.spec (λ c. search tests) (λ c. search tests) (λ c. search tests) (λ c. search tests) (λ c. search tests))
+is_blank_spec = tie.close (tie.spec (λ c. search tests) (λ c. search tests) (λ c. search tests) (λ c. search tests) (λ c. search tests))

@@ -26,8 +26,8 @@ loop-again c =
     let test = c.before.before.before in
     passed-one test.before.loop.invariant test.loop-test.true (ap not (sym c.before.is-blank.ensures ∙ c.if1.false))
 
-pub letters-spec : {M : Type 1} → statement M
-letters-spec =
+pub letters_spec : {M : Type 1} → statement M
+letters_spec =
     tie.close
     (tie.spec
     invariant-loop

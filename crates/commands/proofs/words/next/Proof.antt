@@ -7,8 +7,8 @@ use Rattle.commands.proofs.words.next.Tie as tie
 returns : tie.Need-returns
 returns c = search next_word
 
-pub next-spec : {M : Type 1} → statement M
-next-spec =
+pub next_spec : {M : Type 1} → statement M
+next_spec =
     tie.close
     (tie.spec
     (λ c. search rules)

@@ -23,8 +23,8 @@ loop-again c =
     let test = c.before.before.before in
     one_more _ _ _ test.before.loop.invariant test.loop-test.true c.before.if3.false c.if4.false
 
-pub read-borrower-spec : {M : Type 1} → statement M
-read-borrower-spec =
+pub read_borrower_spec : {M : Type 1} → statement M
+read_borrower_spec =
     tie.close
     (tie.spec
     invariant-loop

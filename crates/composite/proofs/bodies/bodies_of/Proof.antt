@@ -80,9 +80,9 @@ bodies-of-meets : {M : Type 1} {𝓤 : Ura M} (𝓛 : Logic 𝓤) → (mem : Mem
     → Meets 𝓛 bodies_of.signature (WpFn 𝓤 𝓛.H 𝓣.C 𝓣.Λ code.function) (bodies_of.spec 𝓛 mem run)
 bodies-of-meets {𝓤 = 𝓤} 𝓛 mem run 𝓣 = walk_Meets 𝓛 bodies_of.ended stayed (Goes-none 𝓛 0 (λ _. T.the_row) yes (λ κs x f. refl), tt) (bodies_of.clauses 𝓛 mem run) (WpFn 𝓤 𝓛.H 𝓣.C 𝓣.Λ code.function) (WpFn-mono 𝓤 𝓛.H 𝓛.laws 𝓣 code.function) (bodies-of-walks 𝓛 mem run 𝓣.C 𝓣.Λ)
 
-pub bodies-of-spec : {M : Type 1} → stated.statement M
+pub bodies_of_spec : {M : Type 1} → stated.statement M
 unfolding code.routine tables_of
-bodies-of-spec 𝓤 𝓛 𝓜 𝓡 =
+bodies_of_spec 𝓤 𝓛 𝓜 𝓡 =
     entered 𝓤 𝓛.H (triple_of 𝓛 bodies_of.signature (bodies_of.spec 𝓛 𝓜.mem 𝓡.run))
     (tables 𝓤 𝓛.H 𝓜 𝓡 code.env).C (tables 𝓤 𝓛.H 𝓜 𝓡 code.env).Λ #bodies-of code.function (code.unfolded 𝓤 𝓛.H 𝓜 𝓡)
     (bodies-of-meets 𝓛 𝓜.mem 𝓡.run (tables_of 𝓤 𝓛.H 𝓜 (tables 𝓤 𝓛.H 𝓜 𝓡 code.env)))

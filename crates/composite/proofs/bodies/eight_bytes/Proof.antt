@@ -11,8 +11,8 @@ returns c =
     let a = c.before.before.before.before.before.before.before.before.args in
     simp (sym (elems-part a.bytes.now a.offset 8 (search rules)), add-zero)
 
-pub eight-bytes-spec : {M : Type 1} → statement M
-eight-bytes-spec =
+pub eight_bytes_spec : {M : Type 1} → statement M
+eight_bytes_spec =
     tie.close
     (tie.spec
     (λ c. search rules)

@@ -39,8 +39,8 @@ returns-2 c =
       w.write-list.ensures.1 ∙ ap (λ (x : Answer (List ℕ)). area_after (into (length s.args.out.now) x) s.args.out.now) (sym e),
     )
 
-pub write-items-spec : {M : Type 1} → statement M
-write-items-spec =
+pub write_items_spec : {M : Type 1} → statement M
+write_items_spec =
     tie.close
     (tie.spec
     (λ c κs. search rules)

@@ -59,8 +59,8 @@ returns-3 c =
     let a = f.before.before.before.before.before.before.args in
     writer-refused (detail_of a.bytes.now) _ a.out.now _ (composed f) _ _ (w.write.ensures.0, w.write.ensures.1) _ c.before.q.given.1
 
-pub write-list-spec : {M : Type 1} → statement M
-write-list-spec =
+pub write_list_spec : {M : Type 1} → statement M
+write_list_spec =
     tie.close
     (tie.spec
     (λ c κs. search rules)

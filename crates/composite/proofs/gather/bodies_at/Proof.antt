@@ -48,8 +48,8 @@ returns c =
     let n : c.before.loop.i ≡ a.set.count = omega arith in
     c.before.loop.invariant.1 ∙ ap (λ (m : ℕ). filled_bodies (body a.bytes.now a.t2 a.set.units) m 5) n
 
-pub bodies-at-spec : {M : Type 1} → statement M
-bodies-at-spec =
+pub bodies_at_spec : {M : Type 1} → statement M
+bodies_at_spec =
     tie.close
     (tie.spec
     invariant-loop

@@ -34,8 +34,8 @@ returns c =
     let n : c.before.loop.i ≡ a.count = omega arith in
     c.before.loop.invariant.1 ∙ ap (λ (m : ℕ). filled_bodies (body a.bytes.now) m 5) n
 
-pub bodies-behind-spec : {M : Type 1} → statement M
-bodies-behind-spec =
+pub bodies_behind_spec : {M : Type 1} → statement M
+bodies_behind_spec =
     tie.close
     (tie.spec
     invariant-loop

@@ -18,5 +18,5 @@ returns c =
     ∙ ap (parts a.length-number a.subtype)
     (c.before.bodies-behind.ensures ∙ ap (λ (m : ℕ). filled_bodies (λ i. take 8 (drop (2 + i * 8) a.bytes.now)) m 5) c.before.before.body-count.ensures.0)
 
-pub from-code-spec : {M : Type 1} → statement M
-from-code-spec = tie.close (tie.spec (λ c κs. search rules) bodies-behind-requires (λ c κs. search rules) returns)
+pub from_code_spec : {M : Type 1} → statement M
+from_code_spec = tie.close (tie.spec (λ c κs. search rules) bodies-behind-requires (λ c κs. search rules) returns)

@@ -22,8 +22,8 @@ returns c = λ m k.
     ∙ ap (λ (x : ℕ). parts (set_length_number (set_of_offsets c.before.before.before.before.before.before.before.args.list.offsets)) x c.before.before.bodies-at.result) c.before.subtype-of.ensures
     ∙ summary-composite _ _ m k _ (c.before.before.before.unit-set.ensures.0 ∙ ap (λ (x : ℕ). unit_set_as (set_of x)) n) _ c.before.before.bodies-at.ensures
 
-pub from-list-spec : {M : Type 1} → statement M
-from-list-spec =
+pub from_list_spec : {M : Type 1} → statement M
+from_list_spec =
     tie.close
     (tie.spec
     (λ c κs. search rules)

@@ -11,8 +11,8 @@ returns c =
     set-number-is a.before.before.args.offsets _ _ _ _ _ _ a.before.offset-of.ensures a.weight-of.ensures b.before.offset-of2.ensures b.weight-of2.ensures
     c.before.offset-of3.ensures c.weight-of3.ensures
 
-pub set-length-number-spec : {M : Type 1} → statement M
-set-length-number-spec =
+pub set_length_number_spec : {M : Type 1} → statement M
+set_length_number_spec =
     tie.close
     (tie.spec
     (λ c κs. search rules)

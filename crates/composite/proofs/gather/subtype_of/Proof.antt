@@ -13,6 +13,6 @@ returns-2 c = search subtype-5
 returns-3 : tie.Need-returns-3
 returns-3 c = search subtype-6
 
-pub subtype-of-spec : {M : Type 1} → statement M
-subtype-of-spec =
+pub subtype_of_spec : {M : Type 1} → statement M
+subtype_of_spec =
     tie.close (tie.spec (λ c κs. search rules) returns (λ c κs. search rules) returns-2 returns-3)

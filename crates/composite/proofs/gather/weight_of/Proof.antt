@@ -10,5 +10,5 @@ returns c = (rw (eq-eqb _ _ c.if1.true), omega arith)
 returns-2 : tie.Need-returns-2
 returns-2 c = (rw (ne_eqb _ _ c.if1.false), omega arith)
 
-pub weight-of-spec : {M : Type 1} → statement M
-weight-of-spec = tie.close (tie.spec returns returns-2)
+pub weight_of_spec : {M : Type 1} → statement M
+weight_of_spec = tie.close (tie.spec returns returns-2)

@@ -39,8 +39,8 @@ returns-3 c =
     let e = joins-more _ _ (listed_of _ r.read.ensures.0 _ r.read.ensures.1 t.enum_told.given.1) w.before.before.if1.false in
     answers-same s.args.out.now e w.join-list.ensures.0 w.join-list.ensures.1
 
-pub join-spec : {M : Type 1} → statement M
-join-spec =
+pub join_spec : {M : Type 1} → statement M
+join_spec =
     tie.close
     (tie.spec
     (λ c κs. search rules)

@@ -18,8 +18,8 @@ returns-2 c =
     let a = w.before.before.before.before.args in
     (coded-refused (detail_of a.bytes.now) (composed_bytes a.bytes.now) a.out.now _ _ _ w.write-list.ensures.0 c.before.q.given.1, w.write-list.ensures.1)
 
-pub join-list-spec : {M : Type 1} → statement M
-join-list-spec =
+pub join_list_spec : {M : Type 1} → statement M
+join_list_spec =
     tie.close
     (tie.spec
     (λ c κs. search rules)

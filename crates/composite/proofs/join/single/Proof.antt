@@ -12,5 +12,5 @@ returns-2 : tie.Need-returns-2
 unfolding single_refusal
 returns-2 c = rw (ne_eqb _ _ c.if1.false)
 
-pub single-spec : {M : Type 1} → statement M
-single-spec = tie.close (tie.spec returns returns-2)
+pub single_spec : {M : Type 1} → statement M
+single_spec = tie.close (tie.spec returns returns-2)

@@ -15,8 +15,8 @@ returns c =
     let r = c.before.before.before in
     refused r.before.before.before.args.out.now (split-unread _ _ (one-not _ _ (sym r.read.ensures ∙ c.before.answer.given.1))) refl
 
-pub split-spec : {M : Type 1} → statement M
-split-spec =
+pub split_spec : {M : Type 1} → statement M
+split_spec =
     tie.close
     (tie.spec
     (λ c κs. search rules)

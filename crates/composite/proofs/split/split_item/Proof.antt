@@ -67,8 +67,8 @@ returns-3 c =
     (below_all 256 s.args.bytes.now (λ i h. omega (arith, b.shared-slice-known.given i))) _ f.from-code.ensures)
     u.write-units2.ensures.0 u.write-units2.ensures.1
 
-pub split-item-spec : {M : Type 1} → statement M
-split-item-spec =
+pub split_item_spec : {M : Type 1} → statement M
+split_item_spec =
     tie.close
     (tie.spec
     (λ c κs. search rules)

@@ -20,8 +20,8 @@ returns-2 c =
     into-fits (wide_units s.args.bytes.now) s.args.out.now 36 (units-36 _ s.requires) _ room.if1.false
     (units-over _ s.requires s.args.out.now _ _ room.if1.false first.write.ensures.1 second.write2.ensures.1)
 
-pub write-units-spec : {M : Type 1} → statement M
-write-units-spec =
+pub write_units_spec : {M : Type 1} → statement M
+write_units_spec =
     tie.close
     (tie.spec
     returns

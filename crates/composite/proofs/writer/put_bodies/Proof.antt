@@ -37,8 +37,8 @@ returns c =
     let s = c.before.before.before in
     all_laid (body s.args.t1) 8 s.args.out.now _ _ c.before.loop.invariant.1 s.args.count (omega arith)
 
-pub put-bodies-spec : {M : Type 1} → statement M
-put-bodies-spec =
+pub put_bodies_spec : {M : Type 1} → statement M
+put_bodies_spec =
     tie.close
     (tie.spec
     invariant-loop

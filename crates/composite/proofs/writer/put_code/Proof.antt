@@ -49,8 +49,8 @@ same_length c = (put c.before.before).1
 returns : tie.Need-returns
 returns c = (put c.before.before).0
 
-pub put-code-spec : {M : Type 1} → statement M
-put-code-spec =
+pub put_code_spec : {M : Type 1} → statement M
+put_code_spec =
     tie.close
     (tie.spec
     (λ c κs. search rules)

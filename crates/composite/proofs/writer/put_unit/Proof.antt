@@ -10,8 +10,8 @@ returns c =
     let s = w.before.before.before.before.before in
     unit-put s.args.main-type s.args.subtype _ s.args.t3 s.args.out.now _ s.args.offset w.before.before.before.unit-subtype.ensures s.requires.0 s.requires.1 (search rules) s.requires.2 w.write.ensures.1
 
-pub put-unit-spec : {M : Type 1} → statement M
-put-unit-spec =
+pub put_unit_spec : {M : Type 1} → statement M
+put_unit_spec =
     tie.close
     (tie.spec
     (λ c κs. search rules)

@@ -45,8 +45,8 @@ returns c =
     code-units s.args.c s.requires.0 s.args.set s.requires.1 b.bodies_of.result b.bodies_of.ensures s.args.out.now _
     (all_laid (unit_in s.args.set.units s.args.c.subtype b.bodies_of.result) 10 s.args.out.now _ _ c.before.loop.invariant.1 s.args.set.count (omega arith))
 
-pub put-units-spec : {M : Type 1} → statement M
-put-units-spec =
+pub put_units_spec : {M : Type 1} → statement M
+put_units_spec =
     tie.close
     (tie.spec
     invariant-loop

@@ -13,5 +13,5 @@ returns-2 c = own-second c.before.before.before.before.args.main-type.number c.b
 returns-3 : tie.Need-returns-3
 returns-3 c = own-none c.before.before.before.before.args.main-type.number c.before.before.before.before.args.subtype _ c.before.before.before.is.ensures _ c.before.is2.ensures c.before.before.if1.false c.if2.false
 
-pub unit-subtype-spec : {M : Type 1} → statement M
-unit-subtype-spec = tie.close (tie.spec (λ c κs. search rules) returns (λ c κs. search rules) returns-2 returns-3)
+pub unit_subtype_spec : {M : Type 1} → statement M
+unit_subtype_spec = tie.close (tie.spec (λ c κs. search rules) returns (λ c κs. search rules) returns-2 returns-3)

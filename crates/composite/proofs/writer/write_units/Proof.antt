@@ -21,7 +21,7 @@ returns-2 c =
     into-fits (split_into s.args.c) s.args.out.now _ (split-size s.args.c s.requires _ u.unit-set.ensures.0 s.args.c.bodies refl) _ w.before.before.if1.false
     (split-area s.args.c s.requires _ u.unit-set.ensures.0 s.args.c.bodies refl s.args.out.now _ w.put-units.ensures)
 
-pub write-units-spec : {M : Type 1} → statement M
-write-units-spec =
+pub write_units_spec : {M : Type 1} → statement M
+write_units_spec =
     tie.close
     (tie.spec (λ c κs. search rules) (λ c. search rules) (λ c. search rules) returns (λ c κs. search rules) (λ c. search rules) returns-2)

@@ -4,5 +4,5 @@ use Rattle.iscc.proofs.Representation.{outcome-is}
 use Rattle.console.proofs.codes.iscc_code.Statement.{statement}
 use Rattle.console.proofs.codes.iscc_code.Tie as tie
 
-pub iscc-code-spec : {M : Type 1} → statement M
-iscc-code-spec = tie.close (tie.spec (λ c κs. search rules) (λ c κs. search rules) (λ c. search rules) (λ c. (search outcome-is, search rules)))
+pub iscc_code_spec : {M : Type 1} → statement M
+iscc_code_spec = tie.close (tie.spec (λ c κs. search rules) (λ c κs. search rules) (λ c. search rules) (λ c. (search outcome-is, search rules)))

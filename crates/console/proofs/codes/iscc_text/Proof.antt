@@ -4,5 +4,5 @@ use Rattle.iscc.proofs.Representation.{outcome-is}
 use Rattle.console.proofs.codes.iscc_text.Statement.{statement}
 use Rattle.console.proofs.codes.iscc_text.Tie as tie
 
-pub iscc-text-spec : {M : Type 1} → statement M
-iscc-text-spec = tie.close (tie.spec (λ c κs. search rules) (λ c κs. search rules) (λ c. search rules) (λ c. (search outcome-is, search rules)))
+pub iscc_text_spec : {M : Type 1} → statement M
+iscc_text_spec = tie.close (tie.spec (λ c κs. search rules) (λ c κs. search rules) (λ c. search rules) (λ c. (search outcome-is, search rules)))

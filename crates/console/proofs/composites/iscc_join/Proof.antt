@@ -4,5 +4,5 @@ use Rattle.iscc.proofs.Representation.{outcome-is}
 use Rattle.console.proofs.composites.iscc_join.Statement.{statement}
 use Rattle.console.proofs.composites.iscc_join.Tie as tie
 
-pub iscc-join-spec : {M : Type 1} → statement M
-iscc-join-spec = tie.close (tie.spec (λ c κs. search rules) (λ c κs. search rules) (λ c. search rules) (λ c. (search outcome-is, search rules)))
+pub iscc_join_spec : {M : Type 1} → statement M
+iscc_join_spec = tie.close (tie.spec (λ c κs. search rules) (λ c κs. search rules) (λ c. search rules) (λ c. (search outcome-is, search rules)))

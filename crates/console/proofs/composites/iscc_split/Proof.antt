@@ -4,5 +4,5 @@ use Rattle.iscc.proofs.Representation.{outcome-is}
 use Rattle.console.proofs.composites.iscc_split.Statement.{statement}
 use Rattle.console.proofs.composites.iscc_split.Tie as tie
 
-pub iscc-split-spec : {M : Type 1} → statement M
-iscc-split-spec = tie.close (tie.spec (λ c κs. search rules) (λ c κs. search rules) (λ c. search rules) (λ c. (search outcome-is, search rules)))
+pub iscc_split_spec : {M : Type 1} → statement M
+iscc_split_spec = tie.close (tie.spec (λ c κs. search rules) (λ c κs. search rules) (λ c. search rules) (λ c. (search outcome-is, search rules)))

@@ -8,5 +8,5 @@ use Rattle.console.proofs.distances.iscc_distance.Tie as tie
 returns : tie.Need-returns
 returns c = ap distance_answer_as c.before.before.distance.ensures.0
 
-pub iscc-distance-spec : {M : Type 1} → statement M
-iscc-distance-spec = tie.close (tie.spec (λ c κs. search rules) (λ c. search rules) (λ c. search rules) returns)
+pub iscc_distance_spec : {M : Type 1} → statement M
+iscc_distance_spec = tie.close (tie.spec (λ c κs. search rules) (λ c. search rules) (λ c. search rules) returns)

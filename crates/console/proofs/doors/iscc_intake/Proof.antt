@@ -4,5 +4,5 @@ use Rattle.iscc.proofs.Representation.{outcome-is}
 use Rattle.console.proofs.doors.iscc_intake.Statement.{statement}
 use Rattle.console.proofs.doors.iscc_intake.Tie as tie
 
-pub iscc-intake-spec : {M : Type 1} → statement M
-iscc-intake-spec = tie.close (tie.spec (λ c κs. search rules) (λ c κs. search rules) (λ c. search rules) (λ c. (search outcome-is, search rules)))
+pub iscc_intake_spec : {M : Type 1} → statement M
+iscc_intake_spec = tie.close (tie.spec (λ c κs. search rules) (λ c κs. search rules) (λ c. search rules) (λ c. (search outcome-is, search rules)))

@@ -4,8 +4,8 @@ use Rattle.console.proofs.Laws.{is_held, not-held}
 use Rattle.console.proofs.lending.loans_ask.Statement.{statement}
 use Rattle.console.proofs.lending.loans_ask.Tie as tie
 
-pub loans-ask-spec : {M : Type 1} → statement M
-loans-ask-spec =
+pub loans_ask_spec : {M : Type 1} → statement M
+loans_ask_spec =
     tie.close
     (tie.spec
     (λ c κs. search rules)

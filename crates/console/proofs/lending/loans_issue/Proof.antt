@@ -4,5 +4,5 @@ use Rattle.console.proofs.Laws.{change-told}
 use Rattle.console.proofs.lending.loans_issue.Statement.{statement}
 use Rattle.console.proofs.lending.loans_issue.Tie as tie
 
-pub loans-issue-spec : {M : Type 1} → statement M
-loans-issue-spec = tie.close (tie.spec (λ c κs. search rules) (λ c κs. search rules) (λ c. search rules) (λ c. (search change-told, search rules)))
+pub loans_issue_spec : {M : Type 1} → statement M
+loans_issue_spec = tie.close (tie.spec (λ c κs. search rules) (λ c κs. search rules) (λ c. search rules) (λ c. (search change-told, search rules)))

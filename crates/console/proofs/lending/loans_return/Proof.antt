@@ -4,5 +4,5 @@ use Rattle.console.proofs.Laws.{change-told}
 use Rattle.console.proofs.lending.loans_return.Statement.{statement}
 use Rattle.console.proofs.lending.loans_return.Tie as tie
 
-pub loans-return-spec : {M : Type 1} → statement M
-loans-return-spec = tie.close (tie.spec (λ c κs. search rules) (λ c κs. search rules) (λ c. search rules) (λ c. (search change-told, search rules)))
+pub loans_return_spec : {M : Type 1} → statement M
+loans_return_spec = tie.close (tie.spec (λ c κs. search rules) (λ c κs. search rules) (λ c. search rules) (λ c. (search change-told, search rules)))

@@ -4,8 +4,8 @@ use Rattle.console.proofs.Laws.{has_ended, is-torn, is-stopped, not-begun}
 use Rattle.console.proofs.logging.loans_replay.Statement.{statement}
 use Rattle.console.proofs.logging.loans_replay.Tie as tie
 
-pub loans-replay-spec : {M : Type 1} → statement M
-loans-replay-spec =
+pub loans_replay_spec : {M : Type 1} → statement M
+loans_replay_spec =
     tie.close
     (tie.spec
     (λ c κs. search rules)

@@ -4,8 +4,8 @@ use Rattle.console.proofs.Laws.{is-granted, not-granted, not-granted-at, not-gra
 use Rattle.console.proofs.promoting.loans_promote.Statement.{statement}
 use Rattle.console.proofs.promoting.loans_promote.Tie as tie
 
-pub loans-promote-spec : {M : Type 1} → statement M
-loans-promote-spec =
+pub loans_promote_spec : {M : Type 1} → statement M
+loans_promote_spec =
     tie.close
     (tie.spec
     (λ c κs. search rules)

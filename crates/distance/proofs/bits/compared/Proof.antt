@@ -9,5 +9,5 @@ returns : tie.Need-returns
 unfolding compared_bits
 returns c = omega arith
 
-pub compared-spec : {M : Type 1} → statement M
-compared-spec = tie.close (tie.spec (λ c κs. search rules) (λ c. search rules) (λ c. search rules) returns)
+pub compared_spec : {M : Type 1} → statement M
+compared_spec = tie.close (tie.spec (λ c κs. search rules) (λ c. search rules) (λ c. search rules) returns)

@@ -73,8 +73,8 @@ cast-result-2 c = omega (arith, small _ _ _ _ _ c.before.before.before.before.be
 returns-2 : tie.Need-returns-2 invariant-loop decreases-loop
 returns-2 c = end _ _ _ _ _ (next _ _ _ _ _ _ _ c.before.before.before.before.before.loop.invariant (omega arith) (omega arith) c.of-parts2.ensures.0) refl
 
-pub differing-spec : {M : Type 1} → statement M
-differing-spec =
+pub differing_spec : {M : Type 1} → statement M
+differing_spec =
     tie.close
     (tie.spec
     invariant-loop

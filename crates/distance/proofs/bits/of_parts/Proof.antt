@@ -25,5 +25,5 @@ returns c =
       ones-most 64 _ _ c.before.number.type-inv c.number2.type-inv,
     )
 
-pub of-parts-spec : {M : Type 1} → statement M
-of-parts-spec = tie.close (tie.spec (λ c κs. search rules) (λ c κs. search rules) returns)
+pub of_parts_spec : {M : Type 1} → statement M
+of_parts_spec = tie.close (tie.spec (λ c κs. search rules) (λ c κs. search rules) returns)

@@ -26,8 +26,8 @@ loop-again c = search loaded-one
 returns : tie.Need-returns invariant-loop decreases-loop
 returns c = search loaded-all
 
-pub rest-spec : {M : Type 1} → statement M
-rest-spec =
+pub rest_spec : {M : Type 1} → statement M
+rest_spec =
     tie.close
     (tie.spec
     invariant-loop

@@ -7,8 +7,8 @@ use Rattle.distance.proofs.bits.word.Tie as tie
 returns : tie.Need-returns
 returns c = search eight
 
-pub word-spec : {M : Type 1} → statement M
-word-spec =
+pub word_spec : {M : Type 1} → statement M
+word_spec =
     tie.close
     (tie.spec
     (λ c. search rules)

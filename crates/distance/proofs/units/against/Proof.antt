@@ -4,8 +4,8 @@ use Rattle.distance.proofs.Laws.{second-refused, second-read}
 use Rattle.distance.proofs.units.against.Statement.{statement}
 use Rattle.distance.proofs.units.against.Tie as tie
 
-pub against-spec : {M : Type 1} → statement M
-against-spec =
+pub against_spec : {M : Type 1} → statement M
+against_spec =
     tie.close
     (tie.spec
     (λ c κs. search rules)

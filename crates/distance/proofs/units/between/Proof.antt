@@ -4,8 +4,8 @@ use Rattle.distance.proofs.Laws.{not-comparable, measured, starts, body-short}
 use Rattle.distance.proofs.units.between.Statement.{statement}
 use Rattle.distance.proofs.units.between.Tie as tie
 
-pub between-spec : {M : Type 1} → statement M
-between-spec =
+pub between_spec : {M : Type 1} → statement M
+between_spec =
     tie.close
     (tie.spec
     (λ c κs. search rules)

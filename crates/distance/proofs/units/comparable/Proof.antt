@@ -18,6 +18,6 @@ module _ (s x y z : Bool) (e : s ≡ x) where
     rest : not h ≡ false → z ≡ x && y && z
     rest n = rw (← e, ← g, not-false s f, not-false h n)
 
-pub comparable-spec : {M : Type 1} → statement M
-comparable-spec =
+pub comparable_spec : {M : Type 1} → statement M
+comparable_spec =
     tie.close (tie.spec (λ c κs. search rules) (λ c. search other) (λ c κs. search rules) (λ c. search none) (λ c. search rest))

@@ -16,8 +16,8 @@ returns c =
 returns-2 : tie.Need-returns-2
 returns-2 c = (c.against.ensures, (bounds _ _ _ c.against.ensures, exact _ _ _ c.against.ensures))
 
-pub distance-spec : {M : Type 1} → statement M
-distance-spec =
+pub distance_spec : {M : Type 1} → statement M
+distance_spec =
     tie.close
     (tie.spec
     (λ c κs. search rules)

@@ -32,8 +32,8 @@ data-alone : (n : ℕ) {r t₀ t₁ t₂ : Bool} → t₀ ≡ eqb n (number META
     → t₂ ≡ eqb n (number CONTENT) → t₂ ≡ false → r ≡ eqb n (number DATA) → r ≡ has_distance (type_of n)
 data-alone n a a' b b' c c' e = e ∙ last n (is-no n (number META) a a') (is-no n (number SEMANTIC) b b') (is-no n (number CONTENT) c c')
 
-pub has-distance-spec : {M : Type 1} → statement M
-has-distance-spec =
+pub has_distance_spec : {M : Type 1} → statement M
+has_distance_spec =
     tie.close
     (tie.spec
     (λ c κs. search rules)

@@ -26,8 +26,8 @@ returns-2 c =
 returns-3 : tie.Need-returns-3
 returns-3 c = let r = c.before.before.before in code-refused _ _ _ r.read.ensures _ _ _ r.before.if1.false c.before.answer.given.1
 
-pub code-spec : {M : Type 1} → statement M
-code-spec =
+pub code_spec : {M : Type 1} → statement M
+code_spec =
     tie.close
     (tie.spec
     returns

@@ -19,8 +19,8 @@ returns c =
 returns-2 : tie.Need-returns-2
 returns-2 c = let k = c.before.before.before.before.before in none_found _ _ k.read.ensures.0 _ _ _ c.before.before.q.given.1 c.refused.ensures
 
-pub read-typed-spec : {M : Type 1} → statement M
-read-typed-spec =
+pub read_typed_spec : {M : Type 1} → statement M
+read_typed_spec =
     tie.close
     (tie.spec
     (λ c. search rules)

@@ -17,8 +17,8 @@ returns-2 c = (search taken-answer, search taken-area)
 returns-3 : tie.Need-returns-3
 returns-3 c = let r = c.before.before.before in taken_refused _ _ _ r.read.ensures _ _ _ r.before.if1.false c.before.answer.given.1
 
-pub intake-spec : {M : Type 1} → statement M
-intake-spec =
+pub intake_spec : {M : Type 1} → statement M
+intake_spec =
     tie.close
     (tie.spec
     returns

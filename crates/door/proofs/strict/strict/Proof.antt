@@ -26,8 +26,8 @@ returns-3 c =
     let k = c.before.before.before.before in
     checked_refused _ _ _ (omega arith) k.intake.ensures.0 _ c.before.q.given.1
 
-pub strict-spec : {M : Type 1} → statement M
-strict-spec =
+pub strict_spec : {M : Type 1} → statement M
+strict_spec =
     tie.close
     (tie.spec
     (λ c. search rules)

@@ -31,8 +31,8 @@ returns : tie.Need-returns invariant-loop decreases-loop
 unfolding scheme
 returns c = copied_all scheme _ _ _ 5 (omega arith) (omega arith) c.before.loop.invariant.2
 
-pub put-scheme-spec : {M : Type 1} → statement M
-put-scheme-spec =
+pub put_scheme_spec : {M : Type 1} → statement M
+put_scheme_spec =
     tie.close
     (tie.spec
     invariant-loop

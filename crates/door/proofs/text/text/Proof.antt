@@ -21,8 +21,8 @@ returns-2 c =
 returns-3 : tie.Need-returns-3
 returns-3 c = let r = c.before.before.before in text-refused _ _ r.before.if1.false _ r.read.ensures _ c.before.q.given.1
 
-pub text-spec : {M : Type 1} → statement M
-text-spec =
+pub text_spec : {M : Type 1} → statement M
+text_spec =
     tie.close
     (tie.spec
     returns

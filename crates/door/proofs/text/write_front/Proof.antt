@@ -10,7 +10,7 @@ returns c =
     let a = w.before.before.before.before.before.args in
     text-front a.code.now a.out.now _ a.count _ (w.write.ensures.0, w.write.ensures.1)
 
-pub write-front-spec : {M : Type 1} → statement M
-write-front-spec =
+pub write_front_spec : {M : Type 1} → statement M
+write_front_spec =
     tie.close
     (tie.spec (λ c. search rules) (λ c. search rules) (λ c. search rules) (λ c κs. search rules) (λ c. search rules) returns)

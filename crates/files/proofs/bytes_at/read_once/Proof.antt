@@ -13,8 +13,8 @@ invariant-loop fd area₀ offset tries₀ area tries = (offset ≤ 4611686018427
 abbrev decreases-loop : tie.decreases-loop
 decreases-loop fd area₀ offset tries₀ area tries = tries
 
-pub read-once-spec : {M : Type 1} → statement M
-read-once-spec =
+pub read_once_spec : {M : Type 1} → statement M
+read_once_spec =
     tie.close
     (tie.spec
     invariant-loop

@@ -13,8 +13,8 @@ invariant-loop fd bytes offset tries₀ tries = offset ≤ 4611686018427387904
 abbrev decreases-loop : tie.decreases-loop
 decreases-loop fd bytes offset tries₀ tries = tries
 
-pub write-once-spec : {M : Type 1} → statement M
-write-once-spec =
+pub write_once_spec : {M : Type 1} → statement M
+write_once_spec =
     tie.close
     (tie.spec
     invariant-loop

@@ -13,8 +13,8 @@ invariant-loop line₀ count end₀ i₀ t8 line end i = length line ≡ length 
 abbrev decreases-loop : tie.decreases-loop
 decreases-loop line₀ count end₀ i₀ t8 line end i = count - i
 
-pub joined-spec : {M : Type 1} → statement M
-joined-spec =
+pub joined_spec : {M : Type 1} → statement M
+joined_spec =
     tie.close
     (tie.spec
     invariant-loop

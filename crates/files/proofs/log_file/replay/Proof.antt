@@ -13,8 +13,8 @@ invariant-loop fd area₀ piece₀ offset₀ reached₀ turns₀ area piece offs
 abbrev decreases-loop : tie.decreases-loop
 decreases-loop fd area₀ piece₀ offset₀ reached₀ turns₀ area piece offset reached turns = turns
 
-pub replay-spec : {M : Type 1} → statement M
-replay-spec =
+pub replay_spec : {M : Type 1} → statement M
+replay_spec =
     tie.close
     (tie.spec
     invariant-loop

@@ -23,5 +23,5 @@ returns c = search rules
 returns-2 : tie.Need-returns-2
 returns-2 c = search rules
 
-pub last-number-spec : {M : Type 1} → statement M
-last-number-spec = tie.close (tie.spec is-register-requires last-requires returns returns-2)
+pub last_number_spec : {M : Type 1} → statement M
+last_number_spec = tie.close (tie.spec is-register-requires last-requires returns returns-2)

@@ -13,8 +13,8 @@ invariant-loop area count i₀ i = 0 ≤ i
 abbrev decreases-loop : tie.decreases-loop
 decreases-loop area count i₀ i = count - i
 
-pub put-sheet-spec : {M : Type 1} → statement M
-put-sheet-spec =
+pub put_sheet_spec : {M : Type 1} → statement M
+put_sheet_spec =
     tie.close
     (tie.spec
     invariant-loop

@@ -13,8 +13,8 @@ invariant-loop area₀ space₀ opened₀ input₀ turns₀ area space opened in
 abbrev decreases-loop : tie.decreases-loop
 decreases-loop area₀ space₀ opened₀ input₀ turns₀ area space opened input turns = turns
 
-pub serve-all-spec : {M : Type 1} → statement M
-serve-all-spec =
+pub serve_all_spec : {M : Type 1} → statement M
+serve_all_spec =
     tie.close
     (tie.spec
     invariant-loop

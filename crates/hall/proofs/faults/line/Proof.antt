@@ -17,7 +17,7 @@ returns c =
     (put_last (fault_sentence (fault_in s.before.args.fault)) c.put-sentence.ensures))
     (length-fault (fault_in s.before.args.fault))
 
-pub line-spec : {M : Type 1} → statement M
-line-spec =
+pub line_spec : {M : Type 1} → statement M
+line_spec =
     tie.close
     (tie.spec (λ c κs. search rules) (λ c. search rules) (λ c κs. search rules) (λ c κs. search rules) returns)

@@ -4,9 +4,9 @@ use Rattle.hall.specs.Faults.{fault_sentence}
 use Rattle.hall.proofs.faults.put_sentence.Statement.{statement}
 use Rattle.hall.proofs.faults.put_sentence.Tie as tie
 
-pub put-sentence-spec : {M : Type 1} → statement M
+pub put_sentence_spec : {M : Type 1} → statement M
 unfolding fault_sentence
-put-sentence-spec =
+put_sentence_spec =
     tie.close
     (tie.spec
     (λ c. search rules)

@@ -19,5 +19,5 @@ returns-2 c =
     named-refused (write_text s.args.code.now) _ s.args.name.now t.text.new.1.0 (search rules) (search rules)
     t.text.ensures.0 _ c.enum_told.given.1
 
-pub of-code-spec : {M : Type 1} → statement M
-of-code-spec = tie.close (tie.spec (λ c κs. search rules) (λ c. search rules) (λ c. search rules) returns returns-2)
+pub of_code_spec : {M : Type 1} → statement M
+of_code_spec = tie.close (tie.spec (λ c κs. search rules) (λ c. search rules) (λ c. search rules) returns returns-2)

@@ -19,5 +19,5 @@ returns-2 c =
     named-refused (intake args.typed.now) _ args.name.now call.intake.new.1.0 (search rules) (search rules)
     call.intake.ensures.0 _ c.enum_told.given.1
 
-pub of-text-spec : {M : Type 1} → statement M
-of-text-spec = tie.close (tie.spec (λ c κs. search rules) (λ c. search rules) (λ c. search rules) returns returns-2)
+pub of_text_spec : {M : Type 1} → statement M
+of_text_spec = tie.close (tie.spec (λ c κs. search rules) (λ c. search rules) (λ c. search rules) returns returns-2)

@@ -20,8 +20,8 @@ returns-2 c =
     ask-refused args.text.now args.area.now _ _ (ap (λ (x : Asked). x.holder) asked.ask.ensures.0) _
     c.before.before.holder2.given.1 c.refused.ensures
 
-pub ask-spec : {M : Type 1} → statement M
-ask-spec =
+pub ask_spec : {M : Type 1} → statement M
+ask_spec =
     tie.close
     (tie.spec
     (λ c κs. search rules)

@@ -13,8 +13,8 @@ returns c =
     let named = c.before.before.before.before.of-text in
     out-told _ named.new.1.0 named.result named.ensures.0 _ _ _ c.before.out.ensures c.done.ensures
 
-pub found-spec : {M : Type 1} → statement M
-found-spec =
+pub found_spec : {M : Type 1} → statement M
+found_spec =
     tie.close
     (tie.spec
     (λ c κs. search rules)

@@ -27,8 +27,8 @@ returns-2 c =
     issue-refused args.text.now args.area.now _ _ _ _ _ call.issue.ensures.0 call.issue.ensures.1.1.1 _
     c.before.before.q.given.1 c.refused.ensures
 
-pub issue-spec : {M : Type 1} → statement M
-issue-spec =
+pub issue_spec : {M : Type 1} → statement M
+issue_spec =
     tie.close
     (tie.spec
     (λ c κs. search rules)

@@ -16,8 +16,8 @@ returns c =
     issue-put _ _ _ c.before.before.before.before.before.read.ensures start.requires.0 _ start.requires.1 _ (omega arith) _ _ _
     (omega arith) c.issue.ensures
 
-pub issue-entry-spec : {M : Type 1} → statement M
-issue-entry-spec =
+pub issue_entry_spec : {M : Type 1} → statement M
+issue_entry_spec =
     tie.close
     (tie.spec
     (λ c κs. search rules)

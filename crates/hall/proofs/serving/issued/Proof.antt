@@ -14,8 +14,8 @@ returns c =
     issue-made _ named.new.1.0 named.result named.ensures.0 _ _ _ _ _ _ c.done.ensures _
     c.before.before.before.issued.ensures c.before.issue-entry.ensures
 
-pub issued-spec : {M : Type 1} → statement M
-issued-spec =
+pub issued_spec : {M : Type 1} → statement M
+issued_spec =
     tie.close
     (tie.spec
     (λ c κs. search rules)

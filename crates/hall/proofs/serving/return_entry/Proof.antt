@@ -16,8 +16,8 @@ returns c =
     return-put _ _ _ c.before.before.before.before.before.read.ensures start.requires.0 _ start.requires.1 _ (omega arith) _ _
     c.take_back.ensures
 
-pub return-entry-spec : {M : Type 1} → statement M
-return-entry-spec =
+pub return_entry_spec : {M : Type 1} → statement M
+return_entry_spec =
     tie.close
     (tie.spec
     (λ c κs. search rules)

@@ -14,8 +14,8 @@ returns c =
     return-made _ named.new.1.0 named.result named.ensures.0 _ _ _ _ _ _ c.done.ensures
     c.before.before.before.returned.ensures c.before.return-entry.ensures
 
-pub returned-spec : {M : Type 1} → statement M
-returned-spec =
+pub returned_spec : {M : Type 1} → statement M
+returned_spec =
     tie.close
     (tie.spec
     (λ c κs. search rules)

@@ -42,8 +42,8 @@ returns-5 c =
     line-faulty args.line.now args.area.now _ read.read.result read.read.ensures.0 _ _
     c.before.before.kind.given.1 c.faulty.ensures
 
-pub serve-spec : {M : Type 1} → statement M
-serve-spec =
+pub serve_spec : {M : Type 1} → statement M
+serve_spec =
     tie.close
     (tie.spec
     (λ c κs. search rules)

@@ -26,8 +26,8 @@ returns-2 c =
     return_refused args.text.now args.area.now _ _ _ _ call.take_back.ensures.0 call.take_back.ensures.1.1.1 _
     c.before.before.q.given.1 c.refused.ensures
 
-pub take-back-spec : {M : Type 1} → statement M
-take-back-spec =
+pub take_back_spec : {M : Type 1} → statement M
+take_back_spec =
     tie.close
     (tie.spec
     (λ c κs. search rules)

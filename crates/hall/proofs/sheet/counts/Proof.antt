@@ -53,8 +53,8 @@ returns c =
     ))
     ∙ counts-told s.args.area.now n s.requires k.counts.ensures
 
-pub counts-spec : {M : Type 1} → statement M
-counts-spec =
+pub counts_spec : {M : Type 1} → statement M
+counts_spec =
     tie.close
     (tie.spec
     (λ c κs. search rules)

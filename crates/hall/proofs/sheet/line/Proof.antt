@@ -40,8 +40,8 @@ returns-3 c =
 returns-4 : tie.Need-returns-4
 returns-4 c = c.empty2.ensures.0 ∙ no_lines _ _ c.before.before.is-register.ensures c.before.if1.false _
 
-pub line-spec : {M : Type 1} → statement M
-line-spec =
+pub line_spec : {M : Type 1} → statement M
+line_spec =
     tie.close
     (tie.spec
     (λ c κs. search rules)

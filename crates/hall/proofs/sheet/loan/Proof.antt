@@ -24,8 +24,8 @@ returns c =
     let held = borrower-held _ _ _ k.places_size k.ordered s.requires.1 b.borrower.ensures in
     loan-told _ _ _ _ b.before.code.ensures.0 held c.out.ensures
 
-pub loan-spec : {M : Type 1} → statement M
-loan-spec =
+pub loan_spec : {M : Type 1} → statement M
+loan_spec =
     tie.close
     (tie.spec
     (λ c. search rules)

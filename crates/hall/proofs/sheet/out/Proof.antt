@@ -18,6 +18,6 @@ returns c =
     let s = w.before.before.before in
     c.out.ensures ∙ ap (λ (t : List ℕ). out_line t s.args.borrower) (shown _ w.of_code.result ∙ w.of_code.ensures.0)
 
-pub out-spec : {M : Type 1} → statement M
-out-spec =
+pub out_spec : {M : Type 1} → statement M
+out_spec =
     tie.close (tie.spec (λ c κs. search rules) (λ c. search rules) (λ c. search rules) part-out-end (λ c κs. search rules) returns)

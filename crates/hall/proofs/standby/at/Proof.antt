@@ -12,5 +12,5 @@ returns c =
     put_two (text_in s.args.line) (ascii " at byte ") (in_decimal s.args.offset)
     c.before.put.ensures.0 c.put-number.ensures.0
 
-pub at-spec : {M : Type 1} → statement M
-at-spec = tie.close (tie.spec (λ c. search rules) (λ c κs. search rules) (λ c κs. search rules) returns)
+pub at_spec : {M : Type 1} → statement M
+at_spec = tie.close (tie.spec (λ c. search rules) (λ c κs. search rules) (λ c κs. search rules) returns)

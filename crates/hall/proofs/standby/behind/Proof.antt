@@ -12,5 +12,5 @@ returns c =
     let s = c.before.before.before in
     put_two (text_in s.args.line) (ascii ": ") (sentence s.args.q.number) c.before.put.ensures.0 c.put-sentence.ensures.0
 
-pub behind-spec : {M : Type 1} → statement M
-behind-spec = tie.close (tie.spec (λ c. search rules) (λ c κs. search rules) (λ c κs. search rules) returns)
+pub behind_spec : {M : Type 1} → statement M
+behind_spec = tie.close (tie.spec (λ c. search rules) (λ c κs. search rules) (λ c κs. search rules) returns)

@@ -48,8 +48,8 @@ returns-3 c =
 returns-4 : tie.Need-returns-4
 returns-4 c = rw c.before.before.end3.given.1 c.refused.ensures
 
-pub end-line-spec : {M : Type 1} → statement M
-end-line-spec =
+pub end_line_spec : {M : Type 1} → statement M
+end_line_spec =
     tie.close
     (tie.spec
     (λ c. search rules)

@@ -16,8 +16,8 @@ returns c =
     (put_then (ascii "no ") k.put.ensures.0 (put_last (in_decimal s.args.q.number) c.put-number.ensures.0))
     (omega (arith, length-decimal s.args.q.number))
 
-pub no-spec : {M : Type 1} → statement M
-no-spec =
+pub no_spec : {M : Type 1} → statement M
+no_spec =
     tie.close
     (tie.spec
     (λ c κs. search rules)

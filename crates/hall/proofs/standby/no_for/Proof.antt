@@ -32,8 +32,8 @@ returns c =
     (put_last (ascii ": " ++ sentence q.number) c.behind.ensures)))
     (omega (arith, length-numbered q (ascii " for " ++ t) short))
 
-pub no-for-spec : {M : Type 1} → statement M
-no-for-spec =
+pub no_for_spec : {M : Type 1} → statement M
+no_for_spec =
     tie.close
     (tie.spec
     (λ c κs. search rules)

@@ -14,6 +14,6 @@ returns c = replay-yes _ _ _ c.before.before.is-register.ensures c.before.if1.tr
 returns-2 : tie.Need-returns-2
 returns-2 c = c.refused.ensures ∙ replay-no _ _ _ c.before.before.is-register.ensures c.before.if1.false
 
-pub replay-line-spec : {M : Type 1} → statement M
-replay-line-spec =
+pub replay_line_spec : {M : Type 1} → statement M
+replay_line_spec =
     tie.close (tie.spec (λ c κs. search rules) end-line-requires returns (λ c κs. search rules) returns-2)

@@ -29,8 +29,8 @@ returns c =
     (put_last (ascii " out") c.put3.ensures.0)))))
     (omega (arith, length-replayed t))
 
-pub replayed-to-spec : {M : Type 1} → statement M
-replayed-to-spec =
+pub replayed_to_spec : {M : Type 1} → statement M
+replayed_to_spec =
     tie.close
     (tie.spec
     (λ c κs. search rules)

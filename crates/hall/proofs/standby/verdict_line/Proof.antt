@@ -61,8 +61,8 @@ returns-4 c =
     ∙ ap (λ (t : List ℕ). verdict_line (refused_for e.verdict3.given.0.0 t))
     (shown code.bytes k.kept.result ∙ cut-same code.bytes 42 k.kept.result code.length h k.kept.ensures))
 
-pub verdict-line-spec : {M : Type 1} → statement M
-verdict-line-spec =
+pub verdict_line_spec : {M : Type 1} → statement M
+verdict_line_spec =
     tie.close
     (tie.spec
     (λ c κs. search rules)

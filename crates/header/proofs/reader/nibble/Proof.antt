@@ -5,8 +5,8 @@ use Rattle.header.proofs.Nibbles.{nibble-past, nibble-even, nibble-odd}
 use Rattle.header.proofs.reader.nibble.Statement.{statement}
 use Rattle.header.proofs.reader.nibble.Tie as tie
 
-pub nibble-spec : {M : Type 1} → statement M
-nibble-spec =
+pub nibble_spec : {M : Type 1} → statement M
+nibble_spec =
     tie.close
     (tie.spec
     (λ c. (search nibble-past, omega arith))

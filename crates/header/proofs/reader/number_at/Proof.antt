@@ -9,10 +9,10 @@ use Rattle.header.proofs.reader.number_at.Tie as tie
 sum_fits : tie.Need-overflow-add-t13
 sum_fits c =
     let a = c.before.before in
-    omega (arith, mod-lt a.value-at.result a.before.before.before.row_by.ensures.1.numbers)
+    omega (arith, mod-lt a.value_at-v.result a.before.before.before.row_by-row.ensures.1.numbers)
 
-pub number-at-spec : {M : Type 1} → statement M
-number-at-spec =
+pub number_at_spec : {M : Type 1} → statement M
+number_at_spec =
     tie.close
     (tie.spec
     (λ c. (search number-none, omega arith))

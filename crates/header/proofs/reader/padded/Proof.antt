@@ -4,5 +4,5 @@ use Rattle.iscc.proofs.Cases.{tests}
 use Rattle.header.proofs.reader.padded.Statement.{statement}
 use Rattle.header.proofs.reader.padded.Tie as tie
 
-pub padded-spec : {M : Type 1} → statement M
-padded-spec = tie.close (tie.spec (λ c. search tests) (λ c κs. search rules) (λ c. search (tests, c.nibble.ensures.0)))
+pub padded_spec : {M : Type 1} → statement M
+padded_spec = tie.close (tie.spec (λ c. search tests) (λ c κs. search rules) (λ c. search (tests, c.nibble.ensures.0)))

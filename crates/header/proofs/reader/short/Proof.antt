@@ -10,7 +10,7 @@ same-header : (x y a b : ℕ) → x ≡ a → y ≡ b → short_header x y ≡ s
 same-header x y a b e f = rw (e, f)
 
 returns : tie.Need-returns
-returns c = same-header _ _ _ _ c.before.widen.ensures.0 c.widen2.ensures.0
+returns c = same-header _ _ _ _ c.before.widen-first.ensures.0 c.widen-second.ensures.0
 
-pub short-spec : {M : Type 1} → statement M
-short-spec = tie.close (tie.spec (λ c κs. search rules) (λ c κs. search rules) returns)
+pub short_spec : {M : Type 1} → statement M
+short_spec = tie.close (tie.spec (λ c κs. search rules) (λ c κs. search rules) returns)

@@ -10,37 +10,37 @@ use Rattle.header.proofs.Nibbles.{value-more, value-small, value_grows}
 use Rattle.header.proofs.reader.value_at.Statement.{statement}
 use Rattle.header.proofs.reader.value_at.Tie as tie
 
-abbrev invariant-loop : tie.invariant-loop
+abbrev invariant-loop : tie.invariant-loop-i
 invariant-loop bytes at width v₀ i₀ v i = (i ≤ width) × (v < 16 ^ i) × (v ≡ value 4 (take i (drop at (nibbles bytes))))
 
-abbrev decreases-loop : tie.decreases-loop
+abbrev decreases-loop : tie.decreases-loop-i
 decreases-loop bytes at width v₀ i₀ v i = width - i
 
-loop-holds : tie.Need-loop-init invariant-loop decreases-loop
+loop-holds : tie.Need-loop-i-init invariant-loop decreases-loop
 unfolding value
 loop-holds c = (omega arith, omega arith, refl)
 
-mul-v : tie.Need-overflow-mul-v invariant-loop decreases-loop
-mul-v c = omega (arith, value-small _ _ (omega arith) c.before.loop.invariant.1)
+mul-v : tie.Need-overflow_mul-v invariant-loop decreases-loop
+mul-v c = omega (arith, value-small _ _ (omega arith) c.before.loop-i.invariant.1)
 
-add-v : tie.Need-overflow-add-v invariant-loop decreases-loop
-add-v c = omega (arith, value-small _ _ (omega arith) c.before.before.loop.invariant.1, c.nibble.ensures.1)
+add-v : tie.Need-overflow_add-v invariant-loop decreases-loop
+add-v c = omega (arith, value-small _ _ (omega arith) c.before.before.loop-i.invariant.1, c.nibble.ensures.1)
 
-loop-again : tie.Need-loop-preserved invariant-loop decreases-loop
+loop-again : tie.Need-loop-i-preserved invariant-loop decreases-loop
 loop-again c = (
   omega arith,
-  value_grows _ _ _ c.before.before.loop.invariant.1 c.nibble.ensures.1,
-  value-more _ _ _ _ _ (omega arith) c.before.before.loop.invariant.2 c.nibble.ensures.0,
+  value_grows _ _ _ c.before.before.loop-i.invariant.1 c.nibble.ensures.1,
+  value-more _ _ _ _ _ (omega arith) c.before.before.loop-i.invariant.2 c.nibble.ensures.0,
 )
 
 returns : tie.Need-returns invariant-loop decreases-loop
 returns c =
     let a = c.before.before.before.args in
-    let e : c.before.loop.i ≡ a.width = omega arith in
-    c.before.loop.invariant.2 ∙ ap (λ (n : ℕ). value 4 (take n (drop a.at (nibbles a.bytes.now)))) e
+    let e : c.before.loop-i.i ≡ a.width = omega arith in
+    c.before.loop-i.invariant.2 ∙ ap (λ (n : ℕ). value 4 (take n (drop a.at (nibbles a.bytes.now)))) e
 
-pub value-at-spec : {M : Type 1} → statement M
-value-at-spec =
+pub value_at_spec : {M : Type 1} → statement M
+value_at_spec =
     tie.close
     (tie.spec
     invariant-loop

@@ -3,5 +3,5 @@ use mathlib.Core.Path.{refl}
 use Rattle.header.proofs.rows.has_row.Statement.{statement}
 use Rattle.header.proofs.rows.has_row.Tie as tie
 
-pub has-row-spec : {M : Type 1} → statement M
-has-row-spec = tie.close (tie.spec (λ c. refl))
+pub has_row_spec : {M : Type 1} → statement M
+has_row_spec = tie.close (tie.spec (λ c. refl))

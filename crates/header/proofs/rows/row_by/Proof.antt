@@ -5,9 +5,9 @@ use Rattle.iscc.proofs.Cases.{tests}
 use Rattle.header.proofs.rows.row_by.Statement.{statement}
 use Rattle.header.proofs.rows.row_by.Tie as tie
 
-pub row-by-spec : {M : Type 1} → statement M
+pub row_by_spec : {M : Type 1} → statement M
 unfolding first_of prefix_of row_by
-row-by-spec =
+row_by_spec =
     tie.close
     (tie.spec
     (λ c. (search tests, search rules))

@@ -6,9 +6,9 @@ use Rattle.iscc.proofs.Cases.{tests}
 use Rattle.header.proofs.rows.row_of.Statement.{statement}
 use Rattle.header.proofs.rows.row_of.Tie as tie
 
-pub row-of-spec : {M : Type 1} → statement M
+pub row_of_spec : {M : Type 1} → statement M
 unfolding first_of prefix_of row_of
-row-of-spec =
+row_of_spec =
     tie.close
     (tie.spec
     (λ c. (search tests, search rules, omega arith, omega arith))

@@ -9,18 +9,18 @@ product-fits : tie.Need-overflow-mul-t6
 product-fits c =
     let a = c.before.before.before.before in
     let p = a.before.requires in
-    let e = a.row_of.ensures in
+    let e = a.row_of-row.ensures in
     omega (arith, append-fits _ _ _ _ e.0 e.1 e.2 e.3 p.1 p.2)
 
 sum_fits : tie.Need-overflow-add-t8
 sum_fits c =
     let a = c.before.before.before.before in
     let p = a.before.requires in
-    let e = a.row_of.ensures in
+    let e = a.row_of-row.ensures in
     omega (arith, append-fits _ _ _ _ e.0 e.1 e.2 e.3 p.1 p.2)
 
-pub append-spec : {M : Type 1} → statement M
-append-spec =
+pub append_spec : {M : Type 1} → statement M
+append_spec =
     tie.close
     (tie.spec
     (λ c κs. search rules)

@@ -7,11 +7,11 @@ use Rattle.header.proofs.writer.bytes_of.Tie as tie
 
 product-fits : tie.Need-overflow-mul-t6
 product-fits c =
-    let n = c.before.before.before.nibbles-of in
+    let n = c.before.before.before.nibbles_of-n in
     omega (arith, fits-pad n.result.count n.result.value (omega arith) n.ensures.1)
 
-pub bytes-of-spec : {M : Type 1} → statement M
-bytes-of-spec =
+pub bytes_of_spec : {M : Type 1} → statement M
+bytes_of_spec =
     tie.close
     (tie.spec
     (λ c κs. search rules)

@@ -5,8 +5,8 @@ use Rattle.header.proofs.Write.{joined-four}
 use Rattle.header.proofs.writer.nibbles_of.Statement.{statement}
 use Rattle.header.proofs.writer.nibbles_of.Tie as tie
 
-pub nibbles-of-spec : {M : Type 1} → statement M
-nibbles-of-spec =
+pub nibbles_of_spec : {M : Type 1} → statement M
+nibbles_of_spec =
     tie.close
     (tie.spec
     (λ c κs. search rules)

@@ -3,5 +3,5 @@ use Rattle.iscc.proofs.Cases.{tests}
 use Rattle.header.proofs.writer.writable.Statement.{statement}
 use Rattle.header.proofs.writer.writable.Tie as tie
 
-pub writable-spec : {M : Type 1} → statement M
-writable-spec = tie.close (tie.spec (λ c. search tests) (λ c. search tests) (λ c. search tests) (λ c. search tests))
+pub writable_spec : {M : Type 1} → statement M
+writable_spec = tie.close (tie.spec (λ c. search tests) (λ c. search tests) (λ c. search tests) (λ c. search tests))

@@ -15,8 +15,8 @@ returns c =
     (answer-copied s.args.line.now s.args.part.now _ _ _ s.args.held _ s.requires.1 s.requires.2 a.add.ensures.1 b.add2.ensures.0 b.add2.ensures.1)
     w.kept.ensures.0 w.kept.ensures.1
 
-pub copied-spec : {M : Type 1} → statement M
-copied-spec =
+pub copied_spec : {M : Type 1} → statement M
+copied_spec =
     tie.close
     (tie.spec
     (λ c. search rules)

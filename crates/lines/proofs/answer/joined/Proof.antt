@@ -17,8 +17,8 @@ returns-2 c =
     let w = c.before.before in
     refused-answer _ _ _ _ _ _ refl (answer-overlong _ _ _ w.before.before.if2.true) w.write.ensures.0 w.write.ensures.1
 
-pub joined-spec : {M : Type 1} → statement M
-joined-spec =
+pub joined_spec : {M : Type 1} → statement M
+joined_spec =
     tie.close
     (tie.spec
     (λ c κs. search rules)

@@ -22,8 +22,8 @@ returns-2 c =
     let t = w.before.before.before in
     same_answer _ _ _ _ _ (ap answer_line (kept-text _ _ _ t.before.count.ensures t.if1.false)) w.whole.ensures.0 w.whole.ensures.1
 
-pub kept-spec : {M : Type 1} → statement M
-kept-spec =
+pub kept_spec : {M : Type 1} → statement M
+kept_spec =
     tie.close
     (tie.spec
     (λ c κs. search rules)

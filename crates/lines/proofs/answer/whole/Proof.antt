@@ -40,8 +40,8 @@ returns-2 c =
     let r = refusal-answered z.args.text.now z.args.out.now _ _ z.requires k.intake.ensures.0 k.intake.ensures.1 _ w.before.before.before.q.given.1 in
     refused-answer _ _ _ _ _ _ r.1 r.2 w.write.ensures.0 w.write.ensures.1
 
-pub whole-spec : {M : Type 1} → statement M
-whole-spec =
+pub whole_spec : {M : Type 1} → statement M
+whole_spec =
     tie.close
     (tie.spec
     (λ c κs. search rules)

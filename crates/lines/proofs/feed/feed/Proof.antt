@@ -104,8 +104,8 @@ returns-3 c =
     let e = l.before.before in
     ended-begun _ _ _ _ _ _ _ _ _ e.before.loop.invariant _ refl e.loop-test.true _ l.line-length.ensures.1 _ _ t.if2.true a.add.ensures.0 a.add.ensures.1
 
-pub feed-spec : {M : Type 1} → statement M
-feed-spec =
+pub feed_spec : {M : Type 1} → statement M
+feed_spec =
     tie.close
     (tie.spec
     invariant-loop

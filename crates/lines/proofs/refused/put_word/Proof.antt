@@ -25,8 +25,8 @@ returns : tie.Need-returns invariant-loop decreases-loop
 unfolding refused_word
 returns c = copied_all refused_word _ _ _ 8 (omega arith) (omega arith) c.before.loop.invariant.2
 
-pub put-word-spec : {M : Type 1} → statement M
-put-word-spec =
+pub put_word_spec : {M : Type 1} → statement M
+put_word_spec =
     tie.close
     (tie.spec
     invariant-loop

@@ -29,8 +29,8 @@ returns c = (omega arith, failed c.before.before.before.loop.invariant c.before.
 loop-again : tie.Need-loop-preserved invariant-loop decreases-loop
 loop-again c = passed-one c.before.before.before.loop.invariant c.before.before.loop-test.true (is-other _ c.if1.false)
 
-pub line-length-spec : {M : Type 1} → statement M
-line-length-spec =
+pub line_length_spec : {M : Type 1} → statement M
+line_length_spec =
     tie.close
     (tie.spec
     invariant-loop

@@ -4,20 +4,20 @@ use Rattle.octets.proofs.Order.{front-first, front-second, front_same, front-dec
 use Rattle.octets.proofs.compare.front_of.Statement.{statement}
 use Rattle.octets.proofs.compare.front_of.Tie as tie
 
-returns : tie.Need-returns
+returns : tie.Need-returns-then-a-lt4
 returns c = search front-first
 
-returns-2 : tie.Need-returns-2
+returns-2 : tie.Need-returns-then-b-lt4
 returns-2 c = search front-second
 
-returns-3 : tie.Need-returns-3
+returns-3 : tie.Need-returns-then-x-y
 returns-3 c = search front_same
 
-returns-4 : tie.Need-returns-4
+returns-4 : tie.Need-returns
 returns-4 c = search front-decides
 
-pub front-of-spec : {M : Type 1} → statement M
-front-of-spec =
+pub front_of_spec : {M : Type 1} → statement M
+front_of_spec =
     tie.close
     (tie.spec
     returns

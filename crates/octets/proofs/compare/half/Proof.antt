@@ -9,7 +9,7 @@ use Rattle.octets.proofs.compare.half.Tie as tie
 returns : tie.Need-returns
 returns c =
     let known = c.before.before.before.before.before.before.before.before in
-    (search four, below_all 256 known.before.args.bytes.now (λ k _. (known.shared-slice-known.given k).fits), omega arith)
+    (search four, below_all 256 known.before.args.bytes.now (λ k _. (known.shared_slice_known-1.given k).fits), omega arith)
 
 pub half_spec : {M : Type 1} → statement M
 half_spec =

@@ -8,25 +8,25 @@ use Rattle.octets.proofs.Same.{same-lengths, Compared, compared-none, compared-n
 use Rattle.octets.proofs.compare.same.Statement.{statement}
 use Rattle.octets.proofs.compare.same.Tie as tie
 
-abbrev invariant-loop : tie.invariant-loop
+abbrev invariant-loop : tie.invariant-loop-i
 invariant-loop a b most₀ i₀ most i = Compared a b i most
 
-abbrev decreases-loop : tie.decreases-loop
+abbrev decreases-loop : tie.decreases-loop-i
 decreases-loop a b most₀ i₀ most i = length a - i
 
-returns : tie.Need-returns invariant-loop decreases-loop
-returns c = same-lengths _ _ c.if1.true
+returns : tie.Need-returns-then-a-b invariant-loop decreases-loop
+returns c = same-lengths _ _ c.if-a-b.true
 
-loop-holds : tie.Need-loop-init invariant-loop decreases-loop
-loop-holds c = compared-none _ _ c.if1.false
+loop-holds : tie.Need-loop-i-init invariant-loop decreases-loop
+loop-holds c = compared-none _ _ c.if-a-b.false
 
-loop-again : tie.Need-loop-preserved invariant-loop decreases-loop
+loop-again : tie.Need-loop-i-preserved invariant-loop decreases-loop
 loop-again c =
     let at = c.before.before.before.before in
-    ⊎_elim (λ w. rw w.1 (compared-new _ at.loop.invariant (search rules) refl w.0.taken)) (λ w. rw w.1 (compared-kept _ at.loop.invariant (search rules) refl w.0.left)) c.if2.branch
+    ⊎_elim (λ w. rw w.1 (compared-new _ at.loop-i.invariant (search rules) refl w.0.taken)) (λ w. rw w.1 (compared-kept _ at.loop-i.invariant (search rules) refl w.0.left)) c.if-most-bits.branch
 
-returns-2 : tie.Need-returns-2 invariant-loop decreases-loop
-returns-2 c = compared-all c.before.loop.invariant c.loop-test.false
+returns-2 : tie.Need-returns invariant-loop decreases-loop
+returns-2 c = compared-all c.before.loop-i.invariant c.loop-i-test.false
 
 pub same_spec : {M : Type 1} → statement M
 same_spec =

@@ -8,10 +8,10 @@ use Rattle.octets.proofs.compare.word.Tie as tie
 returns : tie.Need-returns
 returns c =
     let known = c.before.before.before.before in
-    (search eight, below_all 256 known.before.args.bytes.now (λ k _. (known.shared-slice-known.given k).fits))
+    (search eight, below_all 256 known.before.args.bytes.now (λ k _. (known.shared_slice_known-1.given k).fits))
 
-pub word-spec : {M : Type 1} → statement M
-word-spec =
+pub word_spec : {M : Type 1} → statement M
+word_spec =
     tie.close
     (tie.spec
     (λ c. search rules)

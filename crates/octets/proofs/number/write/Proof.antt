@@ -6,26 +6,26 @@ use Rattle.octets.proofs.Numbers.{FilledFrom, none_filled, one-filled, all-fille
 use Rattle.octets.proofs.number.write.Statement.{statement}
 use Rattle.octets.proofs.number.write.Tie as tie
 
-abbrev invariant-loop : tie.invariant-loop
+abbrev invariant-loop : tie.invariant-loop-i
 invariant-loop number part₀ rest₀ i₀ part rest i = FilledFrom number part₀ part rest i
 
-abbrev decreases-loop : tie.decreases-loop
+abbrev decreases-loop : tie.decreases-loop-i
 decreases-loop number part₀ rest₀ i₀ part rest i = i
 
-loop-holds : tie.Need-loop-init invariant-loop decreases-loop
+loop-holds : tie.Need-loop-i-init invariant-loop decreases-loop
 loop-holds c = none_filled _ _
 
-slice-write-part : tie.Need-slice-write-part invariant-loop decreases-loop
-slice-write-part c = omega (arith, length-filled c.before.loop.invariant, c.before.loop.invariant.within)
+slice-write-part : tie.Need-bounds-part-i invariant-loop decreases-loop
+slice-write-part c = omega (arith, length-filled c.before.loop-i.invariant, c.before.loop-i.invariant.within)
 
-loop-again : tie.Need-loop-preserved invariant-loop decreases-loop
-loop-again c = one-filled _ c.before.loop.invariant c.loop-test.true refl
+loop-again : tie.Need-loop-i-preserved invariant-loop decreases-loop
+loop-again c = one-filled _ c.before.loop-i.invariant c.loop-i-test.true refl
 
-same_length : tie.Need-same-length invariant-loop decreases-loop
-same_length c = length-filled c.before.loop.invariant
+same_length : tie.Need-shape_of-part invariant-loop decreases-loop
+same_length c = length-filled c.before.loop-i.invariant
 
 returns : tie.Need-returns invariant-loop decreases-loop
-returns c = all-filled c.before.loop.invariant c.loop-test.false
+returns c = all-filled c.before.loop-i.invariant c.loop-i-test.false
 
 pub write_spec : {M : Type 1} → statement M
 write_spec =

@@ -10,5 +10,5 @@ returns c = search bad-there
 returns-2 : tie.Need-returns-2
 returns-2 c = search bad-nowhere
 
-pub bad-offset-spec : {M : Type 1} → statement M
-bad-offset-spec = tie.close (tie.spec (λ c κs. search rules) (λ c κs. search rules) returns returns-2)
+pub bad_offset_spec : {M : Type 1} → statement M
+bad_offset_spec = tie.close (tie.spec (λ c κs. search rules) (λ c κs. search rules) returns returns-2)

@@ -21,8 +21,8 @@ read-run-requires c κs =
     let p = w.before.before.before.before.before.before.requires in
     (search rules, characters _ _ p.0 p.1 _ _ w.without-hyphens.ensures (search rules))
 
-pub read-hyphened-spec : {M : Type 1} → statement M
-read-hyphened-spec =
+pub read_hyphened_spec : {M : Type 1} → statement M
+read_hyphened_spec =
     tie.close
     (tie.spec
     returns

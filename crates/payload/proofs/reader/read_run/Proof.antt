@@ -25,8 +25,8 @@ returns-4 c =
     run-refused _ _ s.requires.0 s.requires.1 e.before.if1.false e.if2.false s.args.out.now _ _ w.read.ensures.0 w.read.ensures.1 _ _
     c.before.before.q.given.1 c.bad-offset.ensures
 
-pub read-run-spec : {M : Type 1} → statement M
-read-run-spec =
+pub read_run_spec : {M : Type 1} → statement M
+read_run_spec =
     tie.close
     (tie.spec
     returns

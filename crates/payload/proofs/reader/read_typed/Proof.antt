@@ -16,8 +16,8 @@ read-hyphened-requires c κs =
     let f = c.before.before.before in
     (search rules, cleaned-is _ _ f.before.before.typed-span.ensures.0, f.plain-front.ensures.0, f.plain-front.ensures.1)
 
-pub read-typed-spec : {M : Type 1} → statement M
-read-typed-spec =
+pub read_typed_spec : {M : Type 1} → statement M
+read_typed_spec =
     tie.close
     (tie.spec
     (λ c κs. search rules)

@@ -41,8 +41,8 @@ same_length c = c.before.loop.invariant.same
 returns : tie.Need-returns invariant-loop decreases-loop
 returns c = dropped-all c.before.loop.invariant c.loop-test.false
 
-pub drop-few-spec : {M : Type 1} → statement M
-drop-few-spec =
+pub drop_few_spec : {M : Type 1} → statement M
+drop_few_spec =
     tie.close
     (tie.spec
     invariant-loop

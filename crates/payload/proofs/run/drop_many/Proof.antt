@@ -41,8 +41,8 @@ same_length c = c.before.loop.invariant.same
 returns : tie.Need-returns invariant-loop decreases-loop
 returns c = dropped-all c.before.loop.invariant c.loop-test.false
 
-pub drop-many-spec : {M : Type 1} → statement M
-drop-many-spec =
+pub drop_many_spec : {M : Type 1} → statement M
+drop_many_spec =
     tie.close
     (tie.spec
     invariant-loop

@@ -9,5 +9,5 @@ returns c = simp (eq-eqb _ _ c.if1.true)
 returns-2 : tie.Need-returns-2
 returns-2 c = simp (ne_eqb _ _ c.if1.false)
 
-pub hyphen-spec : {M : Type 1} → statement M
-hyphen-spec = tie.close (tie.spec returns returns-2)
+pub hyphen_spec : {M : Type 1} → statement M
+hyphen_spec = tie.close (tie.spec returns returns-2)

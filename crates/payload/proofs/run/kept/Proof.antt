@@ -10,5 +10,5 @@ returns c = (rw (eq-eqb _ 45 c.if1.true), omega arith)
 returns-2 : tie.Need-returns-2
 returns-2 c = (rw (ne_eqb _ 45 c.if1.false), omega arith)
 
-pub kept-spec : {M : Type 1} → statement M
-kept-spec = tie.close (tie.spec returns returns-2)
+pub kept_spec : {M : Type 1} → statement M
+kept_spec = tie.close (tie.spec returns returns-2)

@@ -30,6 +30,6 @@ loop-again c =
 returns : tie.Need-returns invariant-loop decreases-loop
 returns c = largest-all c.before.loop.invariant c.loop-test.false ∙ none-marked c.before.before.before.args.part.now
 
-pub none-in-spec : {M : Type 1} → statement M
-none-in-spec =
+pub none_in_spec : {M : Type 1} → statement M
+none_in_spec =
     tie.close (tie.spec invariant-loop decreases-loop loop-holds (λ c. search rules) (λ c κs. search rules) (λ c. search rules) (λ c. search rules) loop-again returns)

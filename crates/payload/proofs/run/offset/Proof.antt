@@ -7,8 +7,8 @@ use Rattle.payload.proofs.run.offset.Tie as tie
 returns : tie.Need-returns
 returns c = (offset-is _ _ _ _ c.before.before.typed-span.ensures.0 c.offset-in.ensures.0, search rules)
 
-pub offset-spec : {M : Type 1} → statement M
-offset-spec =
+pub offset_spec : {M : Type 1} → statement M
+offset_spec =
     tie.close
     (tie.spec
     (λ c κs. search rules)

@@ -31,8 +31,8 @@ loop-again-2 c =
 returns-2 : tie.Need-returns-2 invariant-loop decreases-loop
 returns-2 c = (offset-end _ _ _ _ c.before.loop.invariant.1 c.loop-test.false, search rules)
 
-pub offset-in-spec : {M : Type 1} → statement M
-offset-in-spec =
+pub offset_in_spec : {M : Type 1} → statement M
+offset_in_spec =
     tie.close
     (tie.spec
     invariant-loop

@@ -34,8 +34,8 @@ returns-2 c =
 returns-3 : tie.Need-returns-3 invariant-loop decreases-loop
 returns-3 c = let k = c.before.before.before.before.loop.invariant in (k.within, k.none)
 
-pub plain-front-spec : {M : Type 1} → statement M
-plain-front-spec =
+pub plain_front_spec : {M : Type 1} → statement M
+plain_front_spec =
     tie.close
     (tie.spec
     invariant-loop

@@ -20,8 +20,8 @@ returns c =
     let s = w.before.before.before.before.before in
     front-written s.args.typed.now s.args.front (record { within = s.requires.0; none = s.requires.1 }) _ _ _ s.args.out.now _ refl w.copy.ensures.1 d.drop-hyphens.ensures
 
-pub without-hyphens-spec : {M : Type 1} → statement M
-without-hyphens-spec =
+pub without_hyphens_spec : {M : Type 1} → statement M
+without_hyphens_spec =
     tie.close
     (tie.spec
     (λ c. search rules)

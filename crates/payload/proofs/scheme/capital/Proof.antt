@@ -19,5 +19,5 @@ returns-3 : tie.Need-returns-3
 unfolding upper
 returns-3 c = let b : 122 < c.before.before.args.c = omega arith in simp (le-leb _ _ c.before.if1.false, lt-leb _ _ b)
 
-pub capital-spec : {M : Type 1} → statement M
-capital-spec = tie.close (tie.spec (λ c. search rules) returns returns-2 returns-3)
+pub capital_spec : {M : Type 1} → statement M
+capital_spec = tie.close (tie.spec (λ c. search rules) returns returns-2 returns-3)

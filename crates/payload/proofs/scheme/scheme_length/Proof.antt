@@ -33,8 +33,8 @@ loop-again c =
 returns-3 : tie.Need-returns-3 invariant-loop decreases-loop
 returns-3 c = (scheme-whole _ _ c.loop-test.false c.before.loop.invariant.2, omega arith)
 
-pub scheme-length-spec : {M : Type 1} → statement M
-scheme-length-spec =
+pub scheme_length_spec : {M : Type 1} → statement M
+scheme_length_spec =
     tie.close
     (tie.spec
     invariant-loop

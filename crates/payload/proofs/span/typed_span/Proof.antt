@@ -11,8 +11,8 @@ returns c =
     let e = span-found _ _ _ _ _ _ refl refl a.blanks.ensures.0 c.before.before.trimmed-length.ensures.0 c.scheme-length.ensures.0 in
     (cc, search rules, search rules)
 
-pub typed-span-spec : {M : Type 1} → statement M
-typed-span-spec =
+pub typed_span_spec : {M : Type 1} → statement M
+typed_span_spec =
     tie.close
     (tie.spec
     (λ c κs. search rules)

@@ -26,8 +26,8 @@ loop-again c =
 returns-2 : tie.Need-returns-2 invariant-loop decreases-loop
 returns-2 c = (blanks-all _ _ c.before.loop.invariant.1 c.loop-test.false, search rules)
 
-pub blanks-spec : {M : Type 1} → statement M
-blanks-spec =
+pub blanks_spec : {M : Type 1} → statement M
+blanks_spec =
     tie.close
     (tie.spec
     invariant-loop

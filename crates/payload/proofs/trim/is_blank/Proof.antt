@@ -27,5 +27,5 @@ returns-3 c = simp (ne_eqb _ _ c.before.before.if1.false, ne_eqb _ _ c.before.if
 returns-4 : tie.Need-returns-4
 returns-4 c = last-test _ c.before.before.if1.false c.before.if2.false c.if3.false
 
-pub is-blank-spec : {M : Type 1} → statement M
-is-blank-spec = tie.close (tie.spec returns returns-2 returns-3 returns-4)
+pub is_blank_spec : {M : Type 1} → statement M
+is_blank_spec = tie.close (tie.spec returns returns-2 returns-3 returns-4)

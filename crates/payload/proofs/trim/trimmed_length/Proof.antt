@@ -31,8 +31,8 @@ loop-again c =
 returns-2 : tie.Need-returns-2 invariant-loop decreases-loop
 returns-2 c = (end_none _ _ c.loop-test.false c.before.loop.invariant.1, search rules)
 
-pub trimmed-length-spec : {M : Type 1} → statement M
-trimmed-length-spec =
+pub trimmed_length_spec : {M : Type 1} → statement M
+trimmed_length_spec =
     tie.close
     (tie.spec
     invariant-loop

@@ -4,6 +4,6 @@ use Rattle.loans.specs.Loan.{one_code}
 use Rattle.places.proofs.code.is_code.Statement.{statement}
 use Rattle.places.proofs.code.is_code.Tie as tie
 
-pub is-code-spec : {M : Type 1} → statement M
+pub is_code_spec : {M : Type 1} → statement M
 unfolding one_code
-is-code-spec = tie.close (tie.spec (λ c κs. search rules) (λ c. search rules))
+is_code_spec = tie.close (tie.spec (λ c κs. search rules) (λ c. search rules))

@@ -15,5 +15,5 @@ returns c =
     let known = c.before.before in
     type-read _ (below_all 256 known.before.args.code.now (λ k _. (known.shared-slice-known.given k).fits)) known.before.requires _ c.widen.ensures.0
 
-pub main-type-spec : {M : Type 1} → statement M
-main-type-spec = tie.close (tie.spec shared-slice-read-widen (λ c κs. search rules) returns)
+pub main_type_spec : {M : Type 1} → statement M
+main_type_spec = tie.close (tie.spec shared-slice-read-widen (λ c κs. search rules) returns)

@@ -10,8 +10,8 @@ sub-write-2 c = search one-at-least
 returns : tie.Need-returns
 returns c = search counted-less
 
-pub one-less-spec : {M : Type 1} → statement M
-one-less-spec =
+pub one_less_spec : {M : Type 1} → statement M
+one_less_spec =
     tie.close
     (tie.spec
     (λ c. search rules)

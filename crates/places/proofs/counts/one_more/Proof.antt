@@ -7,8 +7,8 @@ use Rattle.places.proofs.counts.one_more.Tie as tie
 returns : tie.Need-returns
 returns c = search counted-more
 
-pub one-more-spec : {M : Type 1} → statement M
-one-more-spec =
+pub one_more_spec : {M : Type 1} → statement M
+one_more_spec =
     tie.close
     (tie.spec
     (λ c. search rules)

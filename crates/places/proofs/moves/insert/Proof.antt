@@ -7,8 +7,8 @@ use Rattle.places.proofs.moves.insert.Tie as tie
 returns : tie.Need-returns
 returns c = search place-put
 
-pub insert-spec : {M : Type 1} → statement M
-insert-spec =
+pub insert_spec : {M : Type 1} → statement M
+insert_spec =
     tie.close
     (tie.spec
     (λ c. search rules)

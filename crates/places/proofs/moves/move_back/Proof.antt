@@ -30,8 +30,8 @@ same_length c = back-length _ _ _ _ _ c.before.loop.invariant
 returns : tie.Need-returns invariant-loop decreases-loop
 returns c = all_back _ _ _ _ _ c.before.loop.invariant c.loop-test.false
 
-pub move-back-spec : {M : Type 1} → statement M
-move-back-spec =
+pub move_back_spec : {M : Type 1} → statement M
+move_back_spec =
     tie.close
     (tie.spec
     invariant-loop

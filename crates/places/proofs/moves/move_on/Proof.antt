@@ -29,8 +29,8 @@ same_length c = on-length _ _ _ _ _ c.before.loop.invariant
 returns : tie.Need-returns invariant-loop decreases-loop
 returns c = all-on _ _ _ _ _ c.before.loop.invariant c.loop-test.false
 
-pub move-on-spec : {M : Type 1} → statement M
-move-on-spec =
+pub move_on_spec : {M : Type 1} → statement M
+move_on_spec =
     tie.close
     (tie.spec
     invariant-loop

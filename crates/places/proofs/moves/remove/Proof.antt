@@ -7,8 +7,8 @@ use Rattle.places.proofs.moves.remove.Tie as tie
 returns : tie.Need-returns
 returns c = search place-taken
 
-pub remove-spec : {M : Type 1} → statement M
-remove-spec =
+pub remove_spec : {M : Type 1} → statement M
+remove_spec =
     tie.close
     (tie.spec
     (λ c. search rules)

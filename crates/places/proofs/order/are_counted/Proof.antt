@@ -17,8 +17,8 @@ returns c = search all-counted
 returns-2 : tie.Need-returns-2
 returns-2 c = search not-ordered
 
-pub are-counted-spec : {M : Type 1} → statement M
-are-counted-spec =
+pub are_counted_spec : {M : Type 1} → statement M
+are_counted_spec =
     tie.close
     (tie.spec
     (λ c. search rules)

@@ -4,8 +4,8 @@ use Rattle.places.proofs.OrderTests.{is-before, not_same, not_behind}
 use Rattle.places.proofs.order.comes_before.Statement.{statement}
 use Rattle.places.proofs.order.comes_before.Tie as tie
 
-pub comes-before-spec : {M : Type 1} → statement M
-comes-before-spec =
+pub comes_before_spec : {M : Type 1} → statement M
+comes_before_spec =
     tie.close
     (tie.spec
     (λ c κs. search rules)

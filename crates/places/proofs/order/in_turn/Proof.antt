@@ -44,8 +44,8 @@ returns-2 c = ((search rules, search order-all), search rules)
 returns-3 : tie.Need-returns-3 invariant-loop decreases-loop
 returns-3 c = ((search rules, search none-used), search counted_none)
 
-pub in-turn-spec : {M : Type 1} → statement M
-in-turn-spec =
+pub in_turn_spec : {M : Type 1} → statement M
+in_turn_spec =
     tie.close
     (tie.spec
     invariant-loop

@@ -14,5 +14,5 @@ returns c = search by_both
 returns-2 : tie.Need-returns-2
 returns-2 c = search by_first
 
-pub is-next-spec : {M : Type 1} → statement M
-is-next-spec = tie.close (tie.spec (λ c κs. search rules) may-follow-requires returns returns-2)
+pub is_next_spec : {M : Type 1} → statement M
+is_next_spec = tie.close (tie.spec (λ c κs. search rules) may-follow-requires returns returns-2)

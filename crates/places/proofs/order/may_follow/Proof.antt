@@ -19,8 +19,8 @@ returns-2 c = search follow-whole
 returns-3 : tie.Need-returns-3
 returns-3 c = search follow-behind
 
-pub may-follow-spec : {M : Type 1} → statement M
-may-follow-spec =
+pub may_follow_spec : {M : Type 1} → statement M
+may_follow_spec =
     tie.close
     (tie.spec
     (λ c. search rules)

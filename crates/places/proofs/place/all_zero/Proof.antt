@@ -24,8 +24,8 @@ loop-again c =
 returns : tie.Need-returns invariant-loop decreases-loop
 returns c = zeros-all c.before.loop.invariant c.loop-test.false
 
-pub all-zero-spec : {M : Type 1} → statement M
-all-zero-spec =
+pub all_zero_spec : {M : Type 1} → statement M
+all_zero_spec =
     tie.close
     (tie.spec
     invariant-loop

@@ -11,8 +11,8 @@ returns c =
     let places = below_all 256 start.args.places.now (λ k _. (c.before.before.shared-slice-known.given k).fits) in
     search (borrower-read, places)
 
-pub borrower-spec : {M : Type 1} → statement M
-borrower-spec =
+pub borrower_spec : {M : Type 1} → statement M
+borrower_spec =
     tie.close
     (tie.spec
     (λ c. search rules)

@@ -4,8 +4,8 @@ use Rattle.places.proofs.Searching.{code_fits, code_read, code-short}
 use Rattle.places.proofs.place.code.Statement.{statement}
 use Rattle.places.proofs.place.code.Tie as tie
 
-pub code-spec : {M : Type 1} → statement M
-code-spec =
+pub code_spec : {M : Type 1} → statement M
+code_spec =
     tie.close
     (tie.spec
     (λ c. search rules)

@@ -16,8 +16,8 @@ returns-3 c = search used-code
 returns-4 : tie.Need-returns-4
 returns-4 c = search used-bad
 
-pub is-used-spec : {M : Type 1} → statement M
-is-used-spec =
+pub is_used_spec : {M : Type 1} → statement M
+is_used_spec =
     tie.close
     (tie.spec
     (λ c. search rules)

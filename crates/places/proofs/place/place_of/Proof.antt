@@ -12,8 +12,8 @@ returns c =
     let w = c.before.before.before.before in
     place-made w.before.before.before.args.code.now _ w.before.before.before.requires w.copy.ensures.1 _ _ c.before.write.ensures
 
-pub place-of-spec : {M : Type 1} → statement M
-place-of-spec =
+pub place_of_spec : {M : Type 1} → statement M
+place_of_spec =
     tie.close
     (tie.spec
     (λ c. search rules)

@@ -37,8 +37,8 @@ loop-again-2 c = search search-behind
 returns-2 : tie.Need-returns-2 invariant-loop decreases-loop
 returns-2 c = search search-none
 
-pub search-spec : {M : Type 1} → statement M
-search-spec =
+pub search_spec : {M : Type 1} → statement M
+search_spec =
     tie.close
     (tie.spec
     invariant-loop

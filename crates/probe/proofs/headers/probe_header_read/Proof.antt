@@ -4,8 +4,8 @@ use Rattle.probe.proofs.Laws.{header-there, header_refused}
 use Rattle.probe.proofs.headers.probe_header_read.Statement.{statement}
 use Rattle.probe.proofs.headers.probe_header_read.Tie as tie
 
-pub probe-header-read-spec : {M : Type 1} → statement M
-probe-header-read-spec =
+pub probe_header_read_spec : {M : Type 1} → statement M
+probe_header_read_spec =
     tie.close
     (tie.spec
     (λ c κs. search rules)

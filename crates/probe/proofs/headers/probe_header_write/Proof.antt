@@ -4,5 +4,5 @@ use Rattle.iscc.proofs.Representation.{outcome-is}
 use Rattle.probe.proofs.headers.probe_header_write.Statement.{statement}
 use Rattle.probe.proofs.headers.probe_header_write.Tie as tie
 
-pub probe-header-write-spec : {M : Type 1} → statement M
-probe-header-write-spec = tie.close (tie.spec (λ c κs. search rules) (λ c κs. search rules) (λ c. search rules) (λ c. (search outcome-is, search rules)))
+pub probe_header_write_spec : {M : Type 1} → statement M
+probe_header_write_spec = tie.close (tie.spec (λ c κs. search rules) (λ c κs. search rules) (λ c. search rules) (λ c. (search outcome-is, search rules)))

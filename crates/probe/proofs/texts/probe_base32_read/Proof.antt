@@ -4,5 +4,5 @@ use Rattle.iscc.proofs.Representation.{outcome-is}
 use Rattle.probe.proofs.texts.probe_base32_read.Statement.{statement}
 use Rattle.probe.proofs.texts.probe_base32_read.Tie as tie
 
-pub probe-base32-read-spec : {M : Type 1} → statement M
-probe-base32-read-spec = tie.close (tie.spec (λ c κs. search rules) (λ c κs. search rules) (λ c. search rules) (λ c. (search outcome-is, search rules)))
+pub probe_base32_read_spec : {M : Type 1} → statement M
+probe_base32_read_spec = tie.close (tie.spec (λ c κs. search rules) (λ c κs. search rules) (λ c. search rules) (λ c. (search outcome-is, search rules)))

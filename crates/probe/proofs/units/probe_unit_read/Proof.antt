@@ -4,8 +4,8 @@ use Rattle.probe.proofs.Laws.{unit-there, unit-refused}
 use Rattle.probe.proofs.units.probe_unit_read.Statement.{statement}
 use Rattle.probe.proofs.units.probe_unit_read.Tie as tie
 
-pub probe-unit-read-spec : {M : Type 1} → statement M
-probe-unit-read-spec =
+pub probe_unit_read_spec : {M : Type 1} → statement M
+probe_unit_read_spec =
     tie.close
     (tie.spec
     (λ c κs. search rules)

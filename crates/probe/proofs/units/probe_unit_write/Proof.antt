@@ -10,8 +10,8 @@ returns c = (search no-type, search no_write)
 returns-2 : tie.Need-returns-2
 returns-2 c = (search by_number, search area-by-number)
 
-pub probe-unit-write-spec : {M : Type 1} → statement M
-probe-unit-write-spec =
+pub probe_unit_write_spec : {M : Type 1} → statement M
+probe_unit_write_spec =
     tie.close
     (tie.spec
     (λ c κs. search rules)

@@ -37,8 +37,8 @@ returns-3 c =
     told-23 start.args.log.now start.args.replica.now start.args.work.now _ _ _ asked.is-register.ensures c.before.if1.false
     c.refuse2.ensures refl
 
-pub may-promote-spec : {M : Type 1} → statement M
-may-promote-spec =
+pub may_promote_spec : {M : Type 1} → statement M
+may_promote_spec =
     tie.close
     (tie.spec
     (λ c κs. search rules)

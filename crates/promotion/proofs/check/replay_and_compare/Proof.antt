@@ -52,8 +52,8 @@ returns-4 c =
     let start = cleared.before.before.before.before.before in
     absurd (not-refused start.args.log.now start.args.area.now _ start.requires.1 cleared.clear.ensures _ _ ran.run.ensures _ refused.end3.given.1)
 
-pub replay-and-compare-spec : {M : Type 1} → statement M
-replay-and-compare-spec =
+pub replay_and_compare_spec : {M : Type 1} → statement M
+replay_and_compare_spec =
     tie.close
     (tie.spec
     (λ c κs. search rules)

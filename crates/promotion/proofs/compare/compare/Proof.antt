@@ -4,8 +4,8 @@ use Rattle.promotion.proofs.Trial.{loans-differ, nothing-differs, last-differs}
 use Rattle.promotion.proofs.compare.compare.Statement.{statement}
 use Rattle.promotion.proofs.compare.compare.Tie as tie
 
-pub compare-spec : {M : Type 1} → statement M
-compare-spec =
+pub compare_spec : {M : Type 1} → statement M
+compare_spec =
     tie.close
     (tie.spec
     (λ c κs. search rules)

@@ -4,5 +4,5 @@ use Rattle.promotion.proofs.Answers.{copied}
 use Rattle.promotion.proofs.difference.found.Statement.{statement}
 use Rattle.promotion.proofs.difference.found.Tie as tie
 
-pub found-spec : {M : Type 1} → statement M
-found-spec = tie.close (tie.spec (λ c κs. search rules) (λ c. search rules) (λ c κs. search rules) (λ c. search copied))
+pub found_spec : {M : Type 1} → statement M
+found_spec = tie.close (tie.spec (λ c κs. search rules) (λ c. search rules) (λ c κs. search rules) (λ c. search copied))

@@ -12,8 +12,8 @@ walk-requires c κs =
     let start = first.before.before.before in
     both-known start.args.first.now start.args.second.now _ _ start.requires.0 start.requires.1 first.codes-out.ensures second.codes-out2.ensures
 
-pub least-spec : {M : Type 1} → statement M
-least-spec =
+pub least_spec : {M : Type 1} → statement M
+least_spec =
     tie.close
     (tie.spec
     (λ c κs. search rules)

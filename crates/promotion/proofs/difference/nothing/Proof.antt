@@ -3,5 +3,5 @@ use borrow.Author.Rules.{rules}
 use Rattle.promotion.proofs.difference.nothing.Statement.{statement}
 use Rattle.promotion.proofs.difference.nothing.Tie as tie
 
-pub nothing-spec : {M : Type 1} → statement M
-nothing-spec = tie.close (tie.spec (λ c κs. search rules) (λ c. cc))
+pub nothing_spec : {M : Type 1} → statement M
+nothing_spec = tie.close (tie.spec (λ c κs. search rules) (λ c. cc))

@@ -4,8 +4,8 @@ use Rattle.promotion.proofs.Walk.{side-first, side_same, side-second, borrower-h
 use Rattle.promotion.proofs.difference.side_of.Statement.{statement}
 use Rattle.promotion.proofs.difference.side_of.Tie as tie
 
-pub side-of-spec : {M : Type 1} → statement M
-side-of-spec =
+pub side_of_spec : {M : Type 1} → statement M
+side_of_spec =
     tie.close
     (tie.spec
     (λ c κs. search rules)

@@ -12,8 +12,8 @@ invariant-loop first n second m i₀ i = Walked (loans_at first) (loans_at secon
 abbrev decreases-loop : tie.decreases-loop
 decreases-loop first n second m i₀ i = n - i
 
-pub walk-spec : {M : Type 1} → statement M
-walk-spec =
+pub walk_spec : {M : Type 1} → statement M
+walk_spec =
     tie.close
     (tie.spec
     invariant-loop

@@ -14,8 +14,8 @@ returns-2 c =
 returns-3 : tie.Need-returns-3
 returns-3 c = not-read _ _ _ c.before.before.read.ensures _ _ c.enum-told2.given.1
 
-pub admit-spec : {M : Type 1} → statement M
-admit-spec =
+pub admit_spec : {M : Type 1} → statement M
+admit_spec =
     tie.close
     (tie.spec
     (λ c κs. search rules)

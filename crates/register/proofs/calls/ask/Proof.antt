@@ -16,8 +16,8 @@ returns c = ask-told _ _ _ _ c.before.before.before.before.before.before.admit.e
 returns-2 : tie.Need-returns-2
 returns-2 c = ask-refused _ _ _ _ c.before.before.before.before.admit.ensures _ _ c.before.answer.given.1
 
-pub ask-spec : {M : Type 1} → statement M
-ask-spec =
+pub ask_spec : {M : Type 1} → statement M
+ask_spec =
     tie.close
     (tie.spec
     (λ c κs. search rules)

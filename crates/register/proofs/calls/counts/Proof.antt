@@ -14,5 +14,5 @@ returns c = counts-yes _ _ c.before.before.is-register.ensures c.before.if1.true
 returns-2 : tie.Need-returns-2
 returns-2 c = counts-no _ _ c.before.is-register.ensures c.if1.false
 
-pub counts-spec : {M : Type 1} → statement M
-counts-spec = tie.close (tie.spec (λ c κs. search rules) all-requires returns returns-2)
+pub counts_spec : {M : Type 1} → statement M
+counts_spec = tie.close (tie.spec (λ c κs. search rules) all-requires returns returns-2)

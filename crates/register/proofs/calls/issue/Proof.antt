@@ -19,8 +19,8 @@ returns c = issue-told _ _ _ _ c.before.before.before.before.before.before.befor
 returns-2 : tie.Need-returns-2
 returns-2 c = issue-refused _ _ _ _ c.before.before.before.before.admit.ensures _ _ c.before.answer.given.1 _
 
-pub issue-spec : {M : Type 1} → statement M
-issue-spec =
+pub issue_spec : {M : Type 1} → statement M
+issue_spec =
     tie.close
     (tie.spec
     (λ c κs. search rules)

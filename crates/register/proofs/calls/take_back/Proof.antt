@@ -16,8 +16,8 @@ returns c = return-told _ _ _ _ c.before.before.before.before.before.before.befo
 returns-2 : tie.Need-returns-2
 returns-2 c = return_refused _ _ _ _ c.before.before.before.before.admit.ensures _ _ c.before.answer.given.1
 
-pub take-back-spec : {M : Type 1} → statement M
-take-back-spec =
+pub take_back_spec : {M : Type 1} → statement M
+take_back_spec =
     tie.close
     (tie.spec
     (λ c κs. search rules)

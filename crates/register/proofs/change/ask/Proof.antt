@@ -25,8 +25,8 @@ returns-2 c =
     let start = c.before.before.before.before in
     asked-none _ start.args.area.now start.requires _ c.before.find.ensures c.if1.false
 
-pub ask-spec : {M : Type 1} → statement M
-ask-spec =
+pub ask_spec : {M : Type 1} → statement M
+ask_spec =
     tie.close
     (tie.spec
     (λ c κs. search rules)

@@ -64,8 +64,8 @@ returns-4 c =
     _ room.before.if2.false _ counted.codes-out.ensures.0 room.if3.false code start.ranges.borrower.fits start.requires.1
     _ _ back.area.given put.put.ensures set.set.ensures
 
-pub issue-spec : {M : Type 1} → statement M
-issue-spec =
+pub issue_spec : {M : Type 1} → statement M
+issue_spec =
     tie.close
     (tie.spec
     (λ c κs. search rules)

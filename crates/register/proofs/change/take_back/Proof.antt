@@ -51,8 +51,8 @@ returns-3 c =
     let area = below_all 256 start.args.area.now (λ k _. (known.slice-known.given k).fits) in
     return-none _ start.args.area.now start.requires _ found.find.ensures _ left.before.next.ensures left.if1.false area c.if2.false
 
-pub take-back-spec : {M : Type 1} → statement M
-take-back-spec =
+pub take_back_spec : {M : Type 1} → statement M
+take_back_spec =
     tie.close
     (tie.spec
     (λ c κs. search rules)

@@ -11,8 +11,8 @@ returns c = register-length _ (λ e. omega (arith, e, c.if1.true))
 returns-2 : tie.Need-returns-2
 returns-2 c = search register-is
 
-pub is-register-spec : {M : Type 1} → statement M
-is-register-spec =
+pub is_register_spec : {M : Type 1} → statement M
+is_register_spec =
     tie.close
     (tie.spec
     returns

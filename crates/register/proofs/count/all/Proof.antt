@@ -7,8 +7,8 @@ use Rattle.register.proofs.count.all.Tie as tie
 returns : tie.Need-returns
 returns c = search all_there
 
-pub all-spec : {M : Type 1} → statement M
-all-spec =
+pub all_spec : {M : Type 1} → statement M
+all_spec =
     tie.close
     (tie.spec
     (λ c κs. search rules)

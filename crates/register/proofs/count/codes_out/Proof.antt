@@ -7,5 +7,5 @@ use Rattle.register.proofs.count.codes_out.Tie as tie
 returns : tie.Need-returns
 returns c = search first-there
 
-pub codes-out-spec : {M : Type 1} → statement M
-codes-out-spec = tie.close (tie.spec (λ c κs. search rules) (λ c. search rules) returns)
+pub codes_out_spec : {M : Type 1} → statement M
+codes_out_spec = tie.close (tie.spec (λ c κs. search rules) (λ c. search rules) returns)

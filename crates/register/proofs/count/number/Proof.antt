@@ -10,5 +10,5 @@ part-read-end c = search front_fits
 returns : tie.Need-returns
 returns c = search number-there
 
-pub number-spec : {M : Type 1} → statement M
-number-spec = tie.close (tie.spec (λ c. search rules) (λ c. search rules) part-read-end (λ c κs. search rules) returns)
+pub number_spec : {M : Type 1} → statement M
+number_spec = tie.close (tie.spec (λ c. search rules) (λ c. search rules) part-read-end (λ c κs. search rules) returns)

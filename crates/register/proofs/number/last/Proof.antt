@@ -14,5 +14,5 @@ returns c =
     let area = known.before.args.area.now in
     last-there area (below_all 256 area (λ k _. (known.shared-slice-known.given k).fits)) known.before.requires _ c.read.ensures
 
-pub last-spec : {M : Type 1} → statement M
-last-spec = tie.close (tie.spec (λ c. search rules) (λ c. search rules) part-read-end (λ c κs. search rules) returns)
+pub last_spec : {M : Type 1} → statement M
+last_spec = tie.close (tie.spec (λ c. search rules) (λ c. search rules) part-read-end (λ c κs. search rules) returns)

@@ -14,5 +14,5 @@ returns-2 c =
     let area = known.before.args.area.now in
     next-some area (below_all 256 area (λ k _. (known.shared-slice-known.given k).fits)) known.before.requires _ c.before.last.ensures c.if1.false
 
-pub next-spec : {M : Type 1} → statement M
-next-spec = tie.close (tie.spec (λ c κs. search rules) returns (λ c. search rules) returns-2)
+pub next_spec : {M : Type 1} → statement M
+next_spec = tie.close (tie.spec (λ c κs. search rules) returns (λ c. search rules) returns-2)

@@ -25,8 +25,8 @@ returns-4 c =
     whole-test _ (from-type t) w.widen.ensures.0 t.before.widen2.ensures.0 t.from-number.ensures _ n.named.given.1 p.permits.ensures
     w.before.before.if1.false c.before.if2.false c.body_bytes.ensures.0
 
-pub is-one-spec : {M : Type 1} → statement M
-is-one-spec =
+pub is_one_spec : {M : Type 1} → statement M
+is_one_spec =
     tie.close
     (tie.spec
     (λ c. search (no_header, bytes_below c.before))

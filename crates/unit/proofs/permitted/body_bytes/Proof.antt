@@ -5,8 +5,8 @@ use Rattle.unit.proofs.Table.{body-composite, body-id, body-other}
 use Rattle.unit.proofs.permitted.body_bytes.Statement.{statement}
 use Rattle.unit.proofs.permitted.body_bytes.Tie as tie
 
-pub body-bytes-spec : {M : Type 1} → statement M
-body-bytes-spec =
+pub body_bytes_spec : {M : Type 1} → statement M
+body_bytes_spec =
     tie.close
     (tie.spec
     (λ c κs. search rules)

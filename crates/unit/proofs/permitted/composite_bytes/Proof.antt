@@ -15,5 +15,5 @@ returns c =
     let a = c.before.before.args in
     body-units a.subtype a.length-number _ _ c.before.body-count.ensures.0 c.unit-bytes.ensures
 
-pub composite-bytes-spec : {M : Type 1} → statement M
-composite-bytes-spec = tie.close (tie.spec (λ c κs. search rules) (λ c κs. search rules) mul-result returns)
+pub composite_bytes_spec : {M : Type 1} → statement M
+composite_bytes_spec = tie.close (tie.spec (λ c κs. search rules) (λ c κs. search rules) mul-result returns)

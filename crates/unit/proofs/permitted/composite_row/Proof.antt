@@ -4,8 +4,8 @@ use Rattle.unit.proofs.Table.{composite-0, composite-4, composite-other}
 use Rattle.unit.proofs.permitted.composite_row.Statement.{statement}
 use Rattle.unit.proofs.permitted.composite_row.Tie as tie
 
-pub composite-row-spec : {M : Type 1} → statement M
-composite-row-spec =
+pub composite_row_spec : {M : Type 1} → statement M
+composite_row_spec =
     tie.close
     (tie.spec
     (λ c κs. search rules)

@@ -5,9 +5,9 @@ use Rattle.unit.proofs.Table.{row_at, row-at-0, row-none}
 use Rattle.unit.proofs.permitted.in_row.Statement.{statement}
 use Rattle.unit.proofs.permitted.in_row.Tie as tie
 
-pub in-row-spec : {M : Type 1} → statement M
+pub in_row_spec : {M : Type 1} → statement M
 unfolding row
-in-row-spec =
+in_row_spec =
     tie.close
     (tie.spec
     (λ c κs. search rules)

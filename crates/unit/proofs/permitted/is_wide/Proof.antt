@@ -3,5 +3,5 @@ use Rattle.unit.proofs.Table.{wide-not, wide-if}
 use Rattle.unit.proofs.permitted.is_wide.Statement.{statement}
 use Rattle.unit.proofs.permitted.is_wide.Tie as tie
 
-pub is-wide-spec : {M : Type 1} → statement M
-is-wide-spec = tie.close (tie.spec (λ c. search wide-not) (λ c. search wide-if))
+pub is_wide_spec : {M : Type 1} → statement M
+is_wide_spec = tie.close (tie.spec (λ c. search wide-not) (λ c. search wide-if))

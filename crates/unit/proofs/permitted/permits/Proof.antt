@@ -4,5 +4,5 @@ use Rattle.unit.proofs.Table.{permits-not, permits-version}
 use Rattle.unit.proofs.permitted.permits.Statement.{statement}
 use Rattle.unit.proofs.permitted.permits.Tie as tie
 
-pub permits-spec : {M : Type 1} → statement M
-permits-spec = tie.close (tie.spec (λ c κs. search rules) (λ c. search permits-not) (λ c. search permits-version))
+pub permits_spec : {M : Type 1} → statement M
+permits_spec = tie.close (tie.spec (λ c κs. search rules) (λ c. search permits-not) (λ c. search permits-version))

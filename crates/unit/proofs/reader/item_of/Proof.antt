@@ -11,8 +11,8 @@ sum_fits c =
     let start = c.before.before.before.before.before.before.before.before.before in
     omega (arith, (raw-bounds _ _ start.requires).most)
 
-pub item-of-spec : {M : Type 1} → statement M
-item-of-spec =
+pub item_of_spec : {M : Type 1} → statement M
+item_of_spec =
     tie.close
     (tie.spec
     (λ c κs. search rules)

@@ -19,8 +19,8 @@ returns c =
     over-twice (header_bytes (header_from a.h)) _ a.out.now _ _ 2 (sym (length-short (header_from a.h) p.0 p.1 p.2 p.3))
     (w.write.ensures.1 ∙ header-written (header_from a.h) a.out.now p.0 p.1 p.2 p.3 (omega arith)) c.before.before.copy.ensures
 
-pub lay-spec : {M : Type 1} → statement M
-lay-spec =
+pub lay_spec : {M : Type 1} → statement M
+lay_spec =
     tie.close
     (tie.spec
     (λ c κs. search rules)

@@ -10,6 +10,6 @@ returns c = search any-first
 returns-2 : tie.Need-returns-2
 returns-2 c = search any-second
 
-pub any-subtyped-spec : {M : Type 1} → statement M
-any-subtyped-spec =
+pub any_subtyped_spec : {M : Type 1} → statement M
+any_subtyped_spec =
     tie.close (tie.spec (λ c κs. search rules) returns (λ c κs. search rules) returns-2)

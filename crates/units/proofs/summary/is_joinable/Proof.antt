@@ -10,5 +10,5 @@ returns c = search nor-first
 returns-2 : tie.Need-returns-2
 returns-2 c = search nor-second
 
-pub is-joinable-spec : {M : Type 1} → statement M
-is-joinable-spec = tie.close (tie.spec (λ c κs. search rules) returns (λ c κs. search rules) returns-2)
+pub is_joinable_spec : {M : Type 1} → statement M
+is_joinable_spec = tie.close (tie.spec (λ c κs. search rules) returns (λ c κs. search rules) returns-2)

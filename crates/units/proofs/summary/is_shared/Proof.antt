@@ -17,6 +17,6 @@ returns-3 : tie.Need-returns-3
 unfolding shares
 returns-3 c = search cond-none
 
-pub is-shared-spec : {M : Type 1} → statement M
-is-shared-spec =
+pub is_shared_spec : {M : Type 1} → statement M
+is_shared_spec =
     tie.close (tie.spec (λ c κs. search rules) (λ c κs. search rules) returns returns-2 returns-3)

@@ -10,5 +10,5 @@ returns c = search or-first
 returns-2 : tie.Need-returns-2
 returns-2 c = search or-second
 
-pub is-subtyped-spec : {M : Type 1} → statement M
-is-subtyped-spec = tie.close (tie.spec (λ c κs. search rules) returns (λ c κs. search rules) returns-2)
+pub is_subtyped_spec : {M : Type 1} → statement M
+is_subtyped_spec = tie.close (tie.spec (λ c κs. search rules) returns (λ c κs. search rules) returns-2)

@@ -11,6 +11,6 @@ returns c = search offset-there
 returns-2 : tie.Need-returns-2
 returns-2 c = offset-past c.before.before.args.t1 _ _ c.before.number.ensures (omega arith)
 
-pub offset-of-spec : {M : Type 1} → statement M
-offset-of-spec =
+pub offset_of_spec : {M : Type 1} → statement M
+offset_of_spec =
     tie.close (tie.spec (λ c κs. search rules) (λ c. search rules) (λ c. search rules) (λ c. search rules) returns returns-2)

@@ -13,6 +13,6 @@ returns-2 c = search cond-first
 returns-3 : tie.Need-returns-3
 returns-3 c = search cond-none
 
-pub subtype-after-spec : {M : Type 1} → statement M
-subtype-after-spec =
+pub subtype_after_spec : {M : Type 1} → statement M
+subtype_after_spec =
     tie.close (tie.spec (λ c κs. search rules) (λ c κs. search rules) returns returns-2 returns-3)

@@ -10,6 +10,6 @@ returns c = search first-offset
 returns-2 : tie.Need-returns-2
 returns-2 c = search later-offset
 
-pub with-offset-spec : {M : Type 1} → statement M
-with-offset-spec =
+pub with_offset_spec : {M : Type 1} → statement M
+with_offset_spec =
     tie.close (tie.spec (λ c κs. search rules) (λ c. search rules) (λ c. search rules) (λ c. search rules) (λ c. search rules) (λ c. search rules) returns returns-2)

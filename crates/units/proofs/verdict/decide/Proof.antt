@@ -25,8 +25,8 @@ returns-6 c = search refused-14
 returns-7 : tie.Need-returns-7
 returns-7 c = search makes_one
 
-pub decide-spec : {M : Type 1} → statement M
-decide-spec =
+pub decide_spec : {M : Type 1} → statement M
+decide_spec =
     tie.close
     (tie.spec
     returns

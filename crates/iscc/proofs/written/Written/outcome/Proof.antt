@@ -16,5 +16,5 @@ of_length w n e = rw e
 of-refusal : (w : Written) (q : Refusal) → w ≡ Refused q → ◌≡◌ {A = Outcome} (record { number = q.number; length = 0 }) (outcome_as w)
 of-refusal w q e = rw e
 
-pub outcome-spec : {M : Type 1} → statement M
-outcome-spec = tie.close (tie.spec (λ c. search rules) (λ c. search rules) (λ c. search of_length) (λ c. search of-refusal))
+pub outcome_spec : {M : Type 1} → statement M
+outcome_spec = tie.close (tie.spec (λ c. search rules) (λ c. search rules) (λ c. search of_length) (λ c. search of-refusal))
