@@ -3,7 +3,7 @@
 set -uo pipefail
 top=$(dirname "$(readlink -f "$0")")
 target=$top/target
-program=$target/bin/$crate
+program=$top/crates/$crate/out/$crate
 built=$target/$name.built
 header=$top/include/iscc.h
 # A reader that goes away is told as a write that fails, not by the death of the program.
@@ -13,34 +13,37 @@ say() {
     printf '%s: %s\n' "$name" "$*" >&2
 }
 
-# Whether no source is newer than the program, or than the last time that rt found nothing to do.
+# Whether no source is newer than the program, or than the last time that rt found nothing to do. What rt makes, in a crate's out/, is
+# no source.
 up_to_date() {
-    local mark=$program
+    local mark=$program sources
     [ -x "$program" ] || return
     [ "$built" -nt "$mark" ] && mark=$built
-    [ -z "$(find "$top/crates" "$top/crates.txt" -newer "$mark" -print -quit)" ]
+    mapfile -d '' sources < <(find "$top/crates" -mindepth 2 -maxdepth 2 ! -name out -print0)
+    [ -z "$(find "${sources[@]}" "$top/crates.txt" -newer "$mark" -print -quit)" ]
 }
 
 # Whether rt is here and can write all that it writes: where it cannot, its verdict is that of an earlier run.
 can_build() {
-    local kept=("$target"/{bin,inc,log,obj,rlib,stamp})
     command -v rt >/dev/null || return
-    if [ ! -e "$target" ]; then
-        [ -w "$top" ]
+    if [ -e "$target" ]; then
+        [ -w "$target" ]
     else
-        [ -w "$target" ] && [ -z "$(find "${kept[@]}" ! -writable -print -quit 2>/dev/null)" ]
-    fi
+        [ -w "$top" ]
+    fi && [ -z "$(find "$top"/crates/*/ -maxdepth 0 ! -writable -print -quit)" ] &&
+        [ -z "$(find "$top"/crates/*/out ! -type l ! -writable -print -quit 2>/dev/null)" ]
 }
 
+# What rt builds of a program it runs at once; the halls' programs, which get no word here, only say how they are used.
 prove_and_build() {
     local log=$target/$name.log
     mkdir -p "$target" && touch "$built.start" || return
-    if ! (cd "$top" && rt check "$crate") >"$log" 2>&1; then
+    if ! (cd "$top/crates/$crate" && rt run) </dev/null >"$log" 2>&1; then
         cat "$log" >&2
         say "$title could not be built"
         return 1
     elif [ ! -x "$program" ]; then
-        say "all is proved, but $program is gone: remove $target and try again"
+        say "all is proved, but $program is gone: remove ${program%/*} and try again"
         return 1
     fi
     # Sources that were changed meanwhile are newer.

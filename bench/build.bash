@@ -3,13 +3,13 @@ bench=$(realpath "$(dirname "${BASH_SOURCE[0]}")")
 
 # The archives of the tree that one stands in.
 build_archives() {
-    rt staticlib console >&2 && rt staticlib probe >&2
+    (cd crates/console && rt lib) >&2 && (cd crates/probe && rt lib) >&2
 }
 
 # bring_modules CRATE: modules of the distance's proofs that the crate's files name go to it, and those that these name.
 bring_modules() {
     local crate=$1 name
-    for name in $(grep -arhoP '·distance·proofs\.proofs\.\K[A-Z][^. ]*' "$crate"); do
+    for name in $(grep -arhoP 'Rattle\.distance\.proofs\.\K[A-Z][^. ]*' "$crate"); do
         [ ! -f "$crate/proofs/$name.antt" ] || continue
         cp "crates/distance/proofs/$name.antt" "$crate/proofs" || return
         echo "pub mod $name" >>"$crate/proofs/Lib.antt"
@@ -22,17 +22,16 @@ bring_modules() {
 # outside the listed crates: nothing there would prove it.
 build_leaf() {
     local top=target/leaf crate=target/leaf/crates/leaf
-    rm -rf "$top/crates" target/staticlib/libleaf.a &&
-        mkdir -p "$top/crates/iscc" "$crate/src" "$crate/proofs" target/staticlib &&
-        printf '%s\n' 'iscc:' 'leaf: iscc' >"$top/crates.txt" &&
+    rm -rf "$top/crates" &&
+        mkdir -p "$top/crates/iscc" "$crate/src" "$crate/proofs" &&
+        printf '%s\n' 'iscc:' 'leaf staticlib: iscc' >"$top/crates.txt" &&
         cp -r crates/iscc/{src,specs,proofs} "$top/crates/iscc" &&
         cp "$bench/leaf.rt.in" "$crate/src/lib.rt" &&
         cp crates/distance/src/bits.rt "$crate/src" &&
         cp -r crates/distance/proofs/bits "$crate/proofs" &&
         bring_modules "$crate" &&
-        find "$crate" -type f -exec sed -i 's/Rattle·distance·/Rattle·leaf·/g' {} + &&
-        (cd "$top" && rt staticlib leaf >&2) &&
-        cp "$top/target/staticlib/libleaf.a" target/staticlib
+        find "$crate" -type f -exec sed -i 's/Rattle\.distance\./Rattle.leaf./g' {} + &&
+        (cd "$crate" && rt lib >&2)
 }
 
 # The C loop as two objects: for the same x86-64 as the proved code, with the function of gcc's library that counts a word there;

@@ -26,18 +26,17 @@ SourceFileLoader("gate", script.__file__).exec_module(script)
 RT = """#!/bin/sh
 [ "$1" != version ] || echo kit 1
 [ "$1" = ci ] || exit 0
-rm -rf target
 cat ci.out
 exit "$(cat ci.status)"
 """
 
 CI = """fn one::a: proved
-rt: one proved (11 s)
-rt: two proved (7 s)
-rt: must-fail one/first: refused, as it must be (first at proofs/A.antt:3:4; 15 s)
-rt: must-fail one/second: refused, as it must be (12 s)
-rt: two ran as nobody, and wrote what its file 'stdout' has (0 s)
-rt: ok, 2 crates proved, 2 must-fail edits refused
+rt: one proved
+rt: two is kept: an earlier run on this machine proved the same files over the same libraries
+rt: must-fail one/first.edit: refused, as it must be: ./proofs/A.antt:3:4: error: `a`
+rt: must-fail one/second.edit: refused, as it must be: note: src/lib.rt:2:1: it is not proved
+rt: two ran, and wrote what its file stdout has
+rt: ok; handles allowed: none; must-fail edits: 2 refused; done in this run: 1 of the 2 proofs
 4 passed, 0 failed
 """
 
@@ -48,6 +47,7 @@ FILES = {
     "crates/one/proofs/a/Proof.antt": "a\n  -- A comment.\nb\nc\n",
     "crates/one/must-fail/first.edit": "",
     "crates/one/must-fail/second.edit": "",
+    "crates/one/out/made.antt": "made by rt\n",
     "crates/two/src/main.rt": "fn main() {}\n",
     "docs/BENCHMARKS.md": "head\n<!-- made by bench/gate: begin -->\nold\n<!-- made by bench/gate: end -->\nfoot\n",
     "bench/gate_test.py": "",
@@ -61,18 +61,15 @@ FILES = {
 TABLES = """
 | part | time |
 | --- | --- |
-| format | N |
 | proofs | N |
-| edits | N |
-| programs | N |
 | tests | N |
 | whole | N |
 
-| crate | check, s | code | definitions | proof | edits | edits, s |
-| --- | --- | --- | --- | --- | --- | --- |
-| one | 11 | 2 | 1 | 3 | 2 | 27 |
-| two | 7 | 1 | 0 | 0 | 0 | 0 |
-| all | 18 | 3 | 1 | 3 | 2 | 27 |
+| crate | code | definitions | proof | edits |
+| --- | --- | --- | --- | --- |
+| one | 2 | 1 | 3 | 2 |
+| two | 1 | 0 | 0 | 0 |
+| all | 3 | 1 | 3 | 2 |
 """
 
 
@@ -80,13 +77,10 @@ TABLES = """
 LOG = f"""== proofs
 {CI}gate: on a machine, 2 cores
 gate: of crates with the digest DIGEST
-gate: format took 1 s
-gate: proofs took 301 s
-gate: edits took 502 s
-gate: programs took 0 s
+gate: proofs took 502 s
 gate: tests took 88 s
 gate: whole took 892 s
-9 passed, 0 failed
+8 passed, 0 failed
 """
 
 
@@ -121,45 +115,51 @@ class Gate(unittest.TestCase):
 
     def test_gate_that_passes(self) -> None:
         gate = self.run_in(".ci/run")
-        # Format and these tests count one each.
-        self.assertEqual((gate.returncode, gate.stdout.splitlines()[-1]), (0, "9 passed, 0 failed"))
+        # These tests count one.
+        self.assertEqual((gate.returncode, gate.stdout.splitlines()[-1]), (0, "8 passed, 0 failed"))
         self.assertEqual((self.top / "target/gate.log").read_text(), gate.stdout)
         answer = self.run_in("bench/gate")
         self.assertEqual((answer.returncode, answer.stderr), (0, ""))
         title, tables = answer.stdout.split("\n", 1)
-        self.assertRegex(title, r"^Taken on .+, \d+ cores, with kit 1\.$")
+        self.assertRegex(title, r"^Taken on .+, \d+ cores, with kit 1; done in this run: 1 of the 2 proofs\.$")
         self.assertEqual(re.sub(r"\d+ min \d+ s", "N", tables), TABLES)
 
     def test_gate_that_fails(self) -> None:
         self.put("ci.out", CI.replace("4 passed, 0 failed", "3 passed, 1 failed"))
         gate = self.run_in(".ci/run")
-        self.assertEqual((gate.returncode, gate.stdout.splitlines()[-1]), (1, "8 passed, 1 failed"))
+        self.assertEqual((gate.returncode, gate.stdout.splitlines()[-1]), (1, "7 passed, 1 failed"))
         self.assert_fault("does not end with", gate.stdout)
 
     def test_rt_that_breaks(self) -> None:
         self.put("ci.status", "2")
         gate = self.run_in(".ci/run")
-        self.assertEqual((gate.returncode, gate.stdout.splitlines()[-1]), (1, "9 passed, 1 failed"))
+        self.assertEqual((gate.returncode, gate.stdout.splitlines()[-1]), (1, "8 passed, 1 failed"))
+
+    def test_bad_edit(self) -> None:
+        self.put("ci.out", CI.replace("2 refused;", "1 refused, 1 bad;"))
+        gate = self.run_in(".ci/run")
+        self.assertEqual((gate.returncode, gate.stdout.splitlines()[-1]), (1, "8 passed, 1 failed"))
 
     def test_tests_that_say_nothing(self) -> None:
         for said in ("", "echo 0 passed, 0 failed", "echo 3 passed, 0 failed; echo more", "printf '3 passed, 0 failed\\r\\n'"):
             self.put("tests/run", f"#!/bin/sh\n{said}\n")
             gate = self.run_in(".ci/run")
-            self.assertEqual((gate.returncode, gate.stdout.splitlines()[-1]), (1, "6 passed, 1 failed"), said)
+            self.assertEqual((gate.returncode, gate.stdout.splitlines()[-1]), (1, "5 passed, 1 failed"), said)
 
     def test_write(self) -> None:
         self.put("target/gate.log", self.log())
         made = self.run_in("bench/gate").stdout
-        self.assertIn("| edits | 8 min 22 s |\n", made)
+        self.assertIn("| proofs | 8 min 22 s |\n", made)
         self.assertEqual(self.run_in("bench/gate", "--write").stdout, "")
         begin, end = ("<!-- made by bench/gate: begin -->", "<!-- made by bench/gate: end -->")
         self.assertEqual((self.top / "docs/BENCHMARKS.md").read_text(), f"head\n{begin}\n\n{made}\n{end}\nfoot\n")
 
     def test_lines_missing(self) -> None:
         for lost, fault in (
-            ("rt: two proved", "a crate is not in the log: two"),
+            ("rt: two is kept", "a crate is not in the log: two"),
             ("rt: must-fail one/second", "an edit is not in the log: one/second"),
-            ("gate: edits", "each of the times"),
+            ("rt: ok", "what was done anew"),
+            ("gate: proofs", "each of the times"),
             ("gate: on", "the machine"),
             ("gate: of", "the digest"),
         ):
@@ -167,7 +167,7 @@ class Gate(unittest.TestCase):
             self.assert_fault(fault, "".join(left))
 
     def test_line_twice(self) -> None:
-        self.assert_fault("the crate two twice", "rt: two proved (8 s)\n" + self.log())
+        self.assert_fault("the crate two twice", "rt: two proved\n" + self.log())
 
     def test_file_changed(self) -> None:
         for name in ("crates/one/src/lib.rt", "crates/one/must-fail/first.edit", "crates.txt"):

@@ -10,8 +10,8 @@
  * A program can also be linked with the static library alone, libiscc.a, which lies beside the
  * shared one; it is enough for everything in both headers.
  *
- * In the source repository `./install PREFIX` makes and installs all of this, and
- * `rt staticlib console` makes the static library alone, target/staticlib/libconsole.a. The same
+ * In the source repository `./install PREFIX` makes and installs all of this, and `rt lib` in
+ * crates/console makes the static library alone, crates/console/out/libconsole.a. The same
  * source, with the same rt and gcc, gives the same libraries byte for byte, in whatever folder they
  * are built.
  *

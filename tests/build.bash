@@ -1,9 +1,9 @@
 # Builds the outside tests into target/tests. Sourced by `run` and `selftest`, at the repository's top.
 
 built=target/tests
-console=target/staticlib/libconsole.a
-probe=target/staticlib/libprobe.a
-line_program=target/bin/intake_lines
+console=crates/console/out/libconsole.a
+probe=crates/probe/out/libprobe.a
+line_program=crates/intake_lines/out/intake_lines
 # How to link the stand-in: a program finds the one beside it, or another by LD_LIBRARY_PATH.
 over_standin=("-L$built/standin" -lstandin -Wl,--enable-new-dtags '-Wl,-rpath,$ORIGIN')
 warnings=(-Wall -Wextra -Werror)
@@ -61,9 +61,23 @@ build_program() {
 # Everything that the proved libraries are built from, and what was built: one line.
 fingerprint() {
     {
-        rt version && find crates crates.txt -type f -print0 | sort -z | xargs -0 sha256sum &&
+        rt version && find crates crates.txt -type f ! -path 'crates/*/out/*' -print0 | sort -z | xargs -0 sha256sum &&
             sha256sum "$console" "$probe" "$line_program"
     } 2>/dev/null | sha256sum
+}
+
+# in_crate NAME COMMAND..: rt works in a crate's folder, and leaves what it builds in out/ there.
+in_crate() {
+    (cd "crates/$1" && "${@:2}")
+}
+
+# build_own NAME: one of the repository's own programs; rt runs what it has built, with the crate's own input or with none.
+build_own() {
+    in_crate "$1" rt run </dev/null || return
+    if [ ! -x "crates/$1/out/$1" ]; then
+        echo "rt finds all proved, but crates/$1/out/$1 is gone: remove crates/$1/out and build anew"
+        return 1
+    fi
 }
 
 # build_libraries anew|kept: the proved libraries and the line program; `kept` leaves those that were built from the same
@@ -75,22 +89,11 @@ build_libraries() {
         return
     fi
     rm -f "$console" "$probe" "$built/libraries.print"
-    rt staticlib console && rt staticlib probe && rt check intake_lines || return
-    if [ ! -x "$line_program" ]; then
-        echo "rt finds all proved, but $line_program is gone: remove target/ and build anew"
-        return 1
-    fi
+    in_crate console rt lib && in_crate probe rt lib && build_own intake_lines || return
     print=$(fingerprint) && echo "$print" >"$built/libraries.print"
 }
 
 # The programs of the two halls.
 build_halls() {
-    local name
-    for name in counter standby; do
-        rt check "$name" || return
-        if [ ! -x "target/bin/$name" ]; then
-            echo "rt finds all proved, but target/bin/$name is gone: remove target/ and build anew"
-            return 1
-        fi
-    done
+    build_own counter && build_own standby
 }

@@ -111,15 +111,15 @@ link_commands() {
 # prepare_tree LAUNCHER PROGRAM: the stand-in proves nothing: it writes down that it was called, says so, and ends with the status that a
 # file has.
 prepare_tree() {
-    rm -rf "$tree" && mkdir -p "$tree"/{include,crates,target/bin,target/log,commands} || return
-    cp "$1" launch.bash "$tree" && cp include/iscc.h "$tree/include" && cp "target/bin/$2" "$tree/target/bin" || return
+    rm -rf "$tree" && mkdir -p "$tree"/{include,target,commands} "$tree/crates/$2"/{src,out} || return
+    cp "$1" launch.bash "$tree" && cp include/iscc.h "$tree/include" && cp "crates/$2/out/$2" "$tree/crates/$2/out" || return
     echo 0 >"$tree/status"
-    touch "$tree/crates.txt" "$tree/called"
+    touch "$tree/crates.txt" "$tree/crates/$2/src/main.rt" "$tree/called"
     link_commands "$tree/commands" || return
     # shellcheck disable=SC2016
     printf '#!/bin/bash\necho called >>"%s"\necho "rt: no proof"\nexit "$(<"%s")"\n' "$tree/called" "$tree/status" >"$tree/commands/rt"
     chmod +x "$tree/commands/rt"
-    touch -d '1 hour ago' "$tree/crates" "$tree/crates.txt" && touch -d '1 minute ago' "$tree/target/bin/$2"
+    touch -d '1 hour ago' "$tree/crates/$2"/src{/main.rt,} "$tree/crates.txt" && touch -d '1 minute ago' "$tree/crates/$2/out/$2"
 }
 
 # in_tree WORD..: the command; then whether rt was called.
@@ -138,23 +138,23 @@ with_unwritable() { in_tree restricted env PATH="$tree/commands" "$@"; }
 # builds LAUNCHER PROGRAM TITLE STATUS OUTPUT WORD..: is it built where it has to be, and nowhere else? The small repository's own launcher
 # answers the words with this output, and ends with this status where it cannot be built. Each case stands on the one before.
 builds() {
-    local launcher=$1 program=$tree/target/bin/$2 title=$3 status=$4 text=$5 newer gone command
+    local launcher=$1 crate=$tree/crates/$2 program=$tree/crates/$2/out/$2 title=$3 status=$4 text=$5 newer gone command
     newer="$1: a source is newer than $3"
     gone="*is gone: remove *"
     shift 5
     command=("$tree/$launcher" "$@")
     prepare_tree "$launcher" "$(basename "$program")" || exit 1
     expect "$launcher.up_to_date" 0 "$text" '' with_rt "${command[@]}"
-    touch "$tree/crates"
+    touch "$crate/src/main.rt"
     expect "$launcher.newer_source" 0 "$text"$'\ncalled' "$newer: *" with_rt "${command[@]}"
     expect "$launcher.built_once" 0 "$text" '' with_rt "${command[@]}"
     touch "$tree/crates.txt"
     expect "$launcher.newer_list_of_crates" 0 "$text"$'\ncalled' "$newer: *" with_rt "${command[@]}"
-    touch "$tree/crates"
+    touch "$crate/src/main.rt"
     expect "$launcher.newer_without_rt" 0 "$text" "$newer, which runs as it was built last" with_no_rt "${command[@]}"
-    touch "$tree/target/log/old.out" && chmod a-w "$tree/target/log/old.out"
-    expect "$launcher.unwritable_log" 0 "$text" "$newer, which runs as it was built last" with_unwritable "${command[@]}"
-    chmod u+w "$tree/target/log/old.out" && chmod a-w "$tree/target"
+    touch "$crate/out/old.o" && chmod a-w "$crate/out/old.o"
+    expect "$launcher.unwritable_out" 0 "$text" "$newer, which runs as it was built last" with_unwritable "${command[@]}"
+    chmod u+w "$crate/out/old.o" && chmod a-w "$tree/target"
     expect "$launcher.unwritable_target" 0 "$text" "$newer, which runs as it was built last" with_unwritable "${command[@]}"
     chmod u+w "$tree/target"
     echo 1 >"$tree/status"
@@ -163,6 +163,6 @@ builds() {
     rm "$program" && echo 0 >"$tree/status"
     expect "$launcher.program_gone" "$status" called "$gone" with_rt "${command[@]}"
     expect "$launcher.nothing_built" "$status" '' "$launcher: $title is not built, and *" with_no_rt "${command[@]}"
-    : >"$tree/include/iscc.h" && cp "target/bin/$(basename "$program")" "$tree/target/bin"
+    : >"$tree/include/iscc.h" && cp "crates/${program##*/}/out/${program##*/}" "$program"
     expect "$launcher.no_version" "$status" '' "$launcher: the version is missing in include/iscc.h" "$tree/$launcher" --version
 }

@@ -11,8 +11,8 @@
  *
  * Without installing, with the archive alone:
  *
- *   rt staticlib console
- *   gcc -Iinclude examples/c/console.c target/staticlib/libconsole.a -o target/console
+ *   (cd crates/console && rt lib)
+ *   gcc -Iinclude examples/c/console.c crates/console/out/libconsole.a -o target/console
  */
 #include "iscc.h"
 

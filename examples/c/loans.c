@@ -12,8 +12,8 @@
  *
  * Without installing, with the archive alone:
  *
- *   rt staticlib console
- *   gcc -Iinclude examples/c/loans.c target/staticlib/libconsole.a -o target/loans
+ *   (cd crates/console && rt lib)
+ *   gcc -Iinclude examples/c/loans.c crates/console/out/libconsole.a -o target/loans
  */
 #include "loans.h"
 

@@ -13,8 +13,8 @@
  *
  * Without installing, with the archive alone:
  *
- *   rt staticlib console
- *   gcc -Iinclude examples/c/log.c target/staticlib/libconsole.a -o target/log-example
+ *   (cd crates/console && rt lib)
+ *   gcc -Iinclude examples/c/log.c crates/console/out/libconsole.a -o target/log-example
  */
 #include "loans.h"
 

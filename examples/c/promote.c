@@ -14,8 +14,8 @@
  *
  * Without installing, with the archive alone:
  *
- *   rt staticlib console
- *   gcc -Iinclude examples/c/promote.c target/staticlib/libconsole.a -o target/promote
+ *   (cd crates/console && rt lib)
+ *   gcc -Iinclude examples/c/promote.c crates/console/out/libconsole.a -o target/promote
  */
 #include "loans.h"
 

@@ -25,8 +25,8 @@ OUTSIDE = set("gcc g++ rustc python3 valgrind pkg-config apt-get nm git cmp echo
 OUTSIDE |= set("rsync ssh flock mv truncate diff sha256sum sqlite3".split())
 
 # What `rt` lists as its own commands.
-RT = set("check prove dev staticlib try must-fail ci goals mir fmt doc version selftest".split())
-RT_OPTIONS = {"fmt": {"--check"}, "dev": {"--allow-holes"}, "check": {"--allow-holes"}}
+RT = set("check lib run test try must-fail ci all fmt tidy plant lemma expand new doc version help selftest".split())
+RT_OPTIONS = {"check": {"--allow-holes", "--start", "--only"}, "ci": {"--anew"}}
 
 # The programs that work on a folder of any name.
 HALLS = ("counter", "standby")
@@ -43,7 +43,10 @@ HEX = re.compile(r"(?:0x)?[0-9A-Fa-f]{2}(?: [0-9A-Fa-f]{2})*(?: \.\.)?")
 NUMBER = re.compile(r"-?[0-9][0-9.,]*")
 # In small letters only behind the scheme: without it any name with a digit would do.
 BASE32 = re.compile(r"(?:[Ii][Ss][Cc][Cc]:[A-Za-z2-7]{8,}(?:-[A-Za-z2-7]{8,})*|[A-Z2-7]{8,}(?:-[A-Z2-7]{8,})*)")
-BUILT_PATH = re.compile(r"target(?:/(?:tests|staticlib|bin|log|installed|console|counter-hall|standby-hall)(?:/[\w.*-]+)*)?/?")
+BUILT_PATH = re.compile(
+    r"target(?:/(?:tests|installed|console|counter-hall|standby-hall)(?:/[\w.*-]+)*)?/?"
+    r"|crates/(?:\w+|NAME)/out(?:/[\w.*-]+)?/?"
+)
 REVISION = re.compile(r"[0-9a-f]{7,40}")
 SYMBOLS = re.compile(r"[^\w]+")
 CALLED = re.compile(r"([\w:.]+)\(([\w, ]*)\)")

@@ -11,7 +11,7 @@ use lib.ListN.{length, drop, replicate, length-replicate}
 use lib.Seq.{take-append_seam}
 use lib.Dec.{leb, eqb}
 use borrow.Author.Tests.{le-leb, eqb-true, eq-eqb}
-use Rattle.iscc.specs.Answer.{accept, ◌>>=◌, ◌>>◌, ◌otherwise◌, written}
+use Rattle.iscc.specs.Answer.{accept, ◌>>=◌, ◌>>◌, ◌otherwise◌}
 use Rattle.iscc.specs.Refusals.{other_text}
 use Rattle.iscc.specs.Meaning.{Meaning, Permitted}
 use Rattle.iscc.specs.Item.{Item, item_bytes, item_of}

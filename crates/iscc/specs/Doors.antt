@@ -1,5 +1,5 @@
 -- The specification, "Reading text at intake": the text's cleaning, the intake door and the strict door.
-use Rattle.std.specs.Prelude.{ℕ, ◌+◌, Bool, true, false, cond, ◌&&◌, ◌||◌, List, [], ◌∷◌, ◌++◌, map, length, take, drop, eqb, leb, ltb}
+use Rattle.std.specs.Prelude.{ℕ, Bool, cond, ◌||◌, List, [], ◌∷◌, ◌++◌, map, length, take, drop, eqb, leb, ltb}
 use Rattle.iscc.specs.Answer.{Answer, accept, ◌>>=◌, ◌>>◌, ◌otherwise◌, area_after, written}
 use Rattle.iscc.specs.Lists.{same_bytes}
 use Rattle.iscc.specs.Refusals.{empty_text, long_text, long_run, area_too_short, other_text}

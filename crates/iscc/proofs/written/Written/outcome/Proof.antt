@@ -1,6 +1,6 @@
 -- `Written::outcome` meets its contract, by each case.
 use Prim.Native.Nat.{ℕ}
-use mathlib.Core.Path.{◌≡◌, refl}
+use mathlib.Core.Path.{◌≡◌}
 use borrow.Author.Rules.{rules}
 use Rattle.iscc.specs.Refusals.{Refusal}
 use Rattle.iscc.specs.Representation.{outcome_as}
