@@ -2,7 +2,7 @@
 use Prim.Native.Nat.{ℕ, zero, suc, ◌+◌, ◌-◌, ◌*◌, ◌%◌, ◌^◌, ◌≤◌, ◌<◌}
 use mathlib.Core.Path.{◌≡◌, refl, sym, ◌∙◌, ap}
 use mathlib.Core.Bool.{Bool, true, false, cond, ◌&&◌, and-false}
-use mathlib.Core.List.{List, [], ◌∷◌, ◌++◌, map}
+use mathlib.Core.List.{List, [], ◌∷◌, map}
 use native.Mathlib.Nat.{mul-add-mod_self_right, zero-mul, one-mul}
 use native.Mathlib.Omega.{arith}
 use lib.Bits.{bit_and}
@@ -11,7 +11,7 @@ use lib.ListN.{length, take, get_or}
 use lib.Pow.{pow-add}
 use lib.Seq.{take-suc, take_all}
 use borrow.Author.Tests.{eqb-true, lt-leb, le-leb}
-use Rattle.iscc.specs.Alphabet.{upper, index_of, digit_in, is_digit}
+use Rattle.iscc.specs.Alphabet.{upper, index_of, digit_in}
 use Rattle.iscc.specs.Base32.{base32}
 use Rattle.iscc.specs.Digits.{value, all_below}
 use Rattle.iscc.proofs.Digits.{value-snoc}

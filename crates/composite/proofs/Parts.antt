@@ -27,13 +27,11 @@ pub elems-part : (s : List ℕ) (offset k : ℕ) → offset + k ≤ length s →
 elems-part s offset k h = elems-from s offset 0 k (omega arith) ∙ ap (λ (m : ℕ). take k (drop m s)) (add-zero offset)
 
 -- a part of eight, put back
-pub put_back : (o body ys : List ℕ) (offset : ℕ) → offset + 8 ≤ length o → length body ≡ 8
-    → ys ≡ take (length body) body ++ drop (length body) (take (offset + 8 - offset) (drop offset o))
+pub put_back : (o body ys : List ℕ) (offset : ℕ) → ys ≡ body
     → take offset o ++ (ys ++ drop (offset + 8 - offset) (drop offset o)) ≡ take offset o ++ (body ++ drop (offset + 8) o)
-put_back o body ys offset h l e =
+put_back o body ys offset e =
     let k : offset + 8 - offset ≡ 8 = omega arith in
-    let y : ys ≡ body ++ [] = e ∙ ap₂ (λ (p q : List ℕ). p ++ q) (take_all (length body) body (omega arith)) (drop_of_length-le (take (offset + 8 - offset) (drop offset o)) {i = length body} (simp (length-take, length-drop) (omega arith))) in
-    ap₂ (λ (p q : List ℕ). take offset o ++ (p ++ q)) (y ∙ append-nil body) (ap (λ (m : ℕ). drop m (drop offset o)) k ∙ drop-drop 8 offset o)
+    ap₂ (λ (p q : List ℕ). take offset o ++ (p ++ q)) e (ap (λ (m : ℕ). drop m (drop offset o)) k ∙ drop-drop 8 offset o)
 
 -- ---- bodies, filled up with zeros
 

@@ -48,5 +48,5 @@ pub(crate) fn put(body: [u8; 8], offset: usize, out: &mut [u8])
     requires { offset + 8 ≤ length out.old }
     ensures { out.new ≡ take offset out.old ++ (body ++ drop (offset + 8) out.old) }
 {
-    bytes::copy(&body, &mut out[offset..offset + 8]);
+    out[offset..offset + 8].copy_from_slice(&body);
 }

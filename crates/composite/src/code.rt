@@ -81,7 +81,7 @@ fn write(bytes: &[u8], out: &mut [u8]) -> Coded
             if out.len() < bytes.len() {
                 return Coded::Refused(Refusal::AREA_TOO_SHORT, 0);
             }
-            bytes::copy(bytes, out);
+            out[..bytes.len()].copy_from_slice(bytes);
             Coded::Length(bytes.len())
         }
     }

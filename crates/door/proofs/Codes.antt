@@ -96,8 +96,20 @@ module _ (t : List ℕ) (k : ℕ) (r : CodeRead) (of : r ≡ code_read_as k (cod
     pub code_is : (code_bytes t ≡ accept held) × (length held ≤ 42)
     code_is = let h = (code-held k (code_bytes t) r of found).0 in (h, code-most t held h)
 
-    pub code-written : (d e : List ℕ) → 42 ≤ length d → e ≡ take (length held) held ++ drop (length held) d → Told (read_code t (length d)) d (written.Length r.code.length) e
-    code-written d e room f =
+    held-length : length held ≡ r.code.length
+    held-length =
         let n : r.code.length - 0 ≡ r.code.length = omega arith in
-        let m : r.code.length ≡ length held = sym (ap (λ (j : ℕ). length (take j r.code.bytes)) n ∙ length-take-le r.code.length r.code.bytes code_fits) in
-        told d e _ (read-code-is t (length d) room ∙ code_is.0) (ap written.Length m, f ∙ ap (λ (x : List ℕ). x ++ drop (length held) d) (take-length held))
+        ap (λ (j : ℕ). length (take j r.code.bytes)) n ∙ length-take-le r.code.length r.code.bytes code_fits
+
+    pub code-room : (d : List ℕ) → 42 ≤ length d → r.code.length ≤ length d
+    code-room d room = omega (arith, code_is.1, held-length)
+
+    pub code-taken : (d : List ℕ) → 42 ≤ length d → r.code.length ≡ length (take r.code.length d)
+    code-taken d room = sym (length-take-le r.code.length d (code-room d room))
+
+    pub code-part : (d : List ℕ) → 42 ≤ length d → length (take r.code.length d) ≡ length held
+    code-part d room = sym (code-taken d room) ∙ sym held-length
+
+    pub code-written : (d e : List ℕ) → 42 ≤ length d → e ≡ held ++ drop r.code.length d → Told (read_code t (length d)) d (written.Length r.code.length) e
+    code-written d e room f =
+        told d e _ (read-code-is t (length d) room ∙ code_is.0) (ap written.Length (sym held-length), f ∙ ap (λ (j : ℕ). held ++ drop j d) (sym held-length))

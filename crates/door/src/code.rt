@@ -44,7 +44,7 @@ pub fn code(text: &[u8], out: &mut [u8]) -> Written
         CodeAnswer::Accepted => {
             let bytes = found.code.bytes;
             let length = found.code.length;
-            bytes::copy(&bytes[0..length], out);
+            out[..length].copy_from_slice(&bytes[0..length]);
             Written::Length(length)
         }
         CodeAnswer::Refused(q, _) => Written::Refused(q),

@@ -118,15 +118,15 @@ module _ (bs : List ℕ) (n : Numbers) (f : NumbersIn bs n) where
           fourth-is = accepted-number _ _ f.fourth d
 
           module _ {p : Bool} (e : p ≡ (eqb (widths n % 2) 0 || eqb (get_or (nibbles bs) (widths n) 0) 0)) where
-            pub bad-pad : not p ≡ true → Bad
+            pub bad-pad : p ≡ false → Bad
             unfolding read_header
-            bad-pad z = rw (first-is, second_is, third-is, fourth-is, ← e, not-true p z)
+            bad-pad z = rw (first-is, second_is, third-is, fourth-is, ← e, z)
 
-            pub header-good : not p ≡ false
+            pub header-good : p ≡ true
                 → Header (record { header = record { main_type = n.main_type.value; subtype = n.subtype.value; version = n.version.value; length_number = n.length_number.value }; used = (widths n + 1) / 2 })
                 ≡ header_read_as (read_header bs)
             unfolding read_header
-            header-good z = rw (first-is, second_is, third-is, fourth-is, ← e, not-false p z)
+            header-good z = rw (first-is, second_is, third-is, fourth-is, ← e, z)
 
 -- ---- what the answer tells is what the definition's answer tells
 

@@ -85,9 +85,9 @@ module _ (h : Header) {t : Bool} (et : t ≡ (leb h.main_type 4679 && (leb h.sub
   unfolding raw_header write_varnibble
   raw-refused e = refused (leb h.main_type 4679) (leb h.subtype 4679) (leb h.version 4679) (leb h.length_number 4679) _ _ _ _ _ _ (sym et ∙ e)
 
-  pub all-writable : not t ≡ false → Writable (header_from h)
+  pub all-writable : t ≡ true → Writable (header_from h)
   all-writable e =
-      let a = both_true (leb h.main_type 4679) _ (sym et ∙ not-false t e) in
+      let a = both_true (leb h.main_type 4679) _ (sym et ∙ e) in
       let b = both_true (leb h.subtype 4679) _ a.1 in
       let c = both_true (leb h.version 4679) (leb h.length_number 4679) b.1 in
       (leb-true h.main_type 4679 a.0, leb-true h.subtype 4679 b.0, leb-true h.version 4679 c.0, leb-true h.length_number 4679 c.1)
@@ -96,10 +96,10 @@ module _ (h : Header) {t : Bool} (et : t ≡ (leb h.main_type 4679 && (leb h.sub
     abbrev answer : Answer (List ℕ)
     answer = write_header (header_from h) (length d)
 
-    pub write-17 : not t ≡ true → (Refused number_too_large ≡ written_as answer) × (d ≡ area_after answer d)
-    write-17 e = rw (raw-refused (not-true t e)) (refl, refl)
+    pub write-17 : t ≡ false → (Refused number_too_large ≡ written_as answer) × (d ≡ area_after answer d)
+    write-17 e = rw (raw-refused e) (refl, refl)
 
-    module _ (ok : not t ≡ false) (n x : ℕ) (en : digits 8 n x ≡ header_bytes (header_from h)) where
+    module _ (ok : t ≡ true) (n x : ℕ) (en : digits 8 n x ≡ header_bytes (header_from h)) where
       raw-is : raw_header (header_from h) ≡ accept (digits 8 n x)
       raw-is = raw-header (header_from h) (all-writable ok) ∙ ap accept (sym en)
 

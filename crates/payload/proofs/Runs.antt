@@ -8,7 +8,7 @@ use native.Mathlib.Numerals.{add-one}
 use lib.ListN.{length, get_or, take, set, length-append, length-set, length-drop, drop, take-append-drop, drop_of_length-le}
 use lib.Seq.{take_all, take-length, take-add, take_at, drop_at, take-set-le, take-suc-set, length-take-le}
 use lib.Dec.{eqb, ltb}
-use borrow.Author.Tests.{eq-eqb, ne_eqb, eqb-true, eqb-false}
+use borrow.Author.Tests.{eqb-true, eqb-false}
 use Rattle.iscc.specs.Digits.{all_below}
 use Rattle.iscc.specs.Doors.{drop_hyphens}
 use Rattle.iscc.proofs.Text.{drop_hyphens-skip, drop_hyphens-keep}

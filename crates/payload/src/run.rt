@@ -112,7 +112,7 @@ pub fn without_hyphens(typed: &[u8], front: usize, out: &mut [u8]) -> usize
     requires { (front ≤ length typed.now) × (no_hyphen (take front typed.now) ≡ true) × (front ≤ length out.old) }
     ensures { Dropped typed.now out.new result }
 {
-    bytes::copy(&typed[0..front], out);
+    out[0..front].copy_from_slice(&typed[0..front]);
     front + drop_hyphens(&typed[front..], &mut out[front..])
 }
 

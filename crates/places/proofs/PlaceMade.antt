@@ -15,51 +15,45 @@ use Rattle.loans.specs.Moves.{pasted}
 use Rattle.loans.proofs.Place.{length-zeros}
 use Rattle.loans.proofs.Places.{zeros-more}
 
-module _ (c e : List ℕ) (l : length c ≤ 42) (p : e ≡ take (length c) c ++ drop (length c) (replicate 43 0)) where
+-- a byte string that has been written behind the length over 47 zeros: it, zeros up to 43 bytes, and the four of the borrower
+module _ (c e : List ℕ) (l : length c ≤ 42) (p : e ≡ c) where
   abbrev last : List ℕ
   last = 0 ∷ 0 ∷ 0 ∷ 0 ∷ []
 
-  filled : e ≡ c ++ zeros (43 - length c)
+  abbrev front : List ℕ
+  front = c ++ zeros (43 - length c)
+
+  filled : e ++ drop (1 + length c - 1) (replicate 47 0) ≡ front ++ last
   unfolding zeros
   filled =
-      let s : length c + (43 - length c) ≡ 43 = omega arith in
-      let z : replicate 43 0 ≡ zeros (length c) ++ zeros (43 - length c) = ap zeros (sym s) ∙ sym (zeros-more (length c) (43 - length c)) in
-      let d : drop (length c) (replicate 43 0) ≡ zeros (43 - length c) =
-      ap (drop (length c)) z ∙ drop_at (zeros (length c)) (zeros (43 - length c)) (length c) (length-zeros (length c)) in
-      p ∙ ap (λ (x : List ℕ). x ++ drop (length c) (replicate 43 0)) (take-length c) ∙ ap (λ (x : List ℕ). c ++ x) d
+      let j : 1 + length c - 1 ≡ length c = omega arith in
+      let s : length c + (43 - length c + 4) ≡ 47 = omega arith in
+      let z : replicate 47 0 ≡ zeros (length c) ++ zeros (43 - length c + 4) = ap zeros (sym s) ∙ sym (zeros-more (length c) (43 - length c + 4)) in
+      let d : drop (length c) (replicate 47 0) ≡ zeros (43 - length c + 4) =
+      ap (drop (length c)) z ∙ drop_at (zeros (length c)) (zeros (43 - length c + 4)) (length c) (length-zeros (length c)) in
+      let t : zeros (43 - length c + 4) ≡ zeros (43 - length c) ++ last = sym (zeros-more (43 - length c) 4) in
+      ap (λ (x : List ℕ). x ++ drop (1 + length c - 1) (replicate 47 0)) p ∙ ap (λ (k : ℕ). c ++ drop k (replicate 47 0)) j
+      ∙ ap (λ (x : List ℕ). c ++ x) (d ∙ t) ∙ sym (append_assoc c (zeros (43 - length c)) last)
 
-  size : length e ≡ 43
-  size = ap length filled ∙ length-append c (zeros (43 - length c)) ∙ omega (arith, length-zeros (43 - length c))
+  size : length front ≡ 43
+  size = length-append c (zeros (43 - length c)) ∙ omega (arith, length-zeros (43 - length c))
 
-  pub place-room : 48 ≤ length (length c ∷ (e ++ last))
-  place-room = omega (arith, size, length-append e last)
-
-  pub place-made : (b : ℕ) (d : List ℕ) → d ≡ digits 8 (length (take 4 (drop 43 (e ++ last)))) b
-      → length c ∷ (take 43 (e ++ last) ++ (d ++ drop 4 (drop 43 (e ++ last)))) ≡ place_bytes (some (loan_of c b))
+  pub place-made : (b : ℕ) (d : List ℕ) → d ≡ digits 8 (length (take 4 (drop 43 (e ++ drop (1 + length c - 1) (replicate 47 0))))) b
+      → length c ∷ (take 43 (e ++ drop (1 + length c - 1) (replicate 47 0)) ++ (d ++ drop 4 (drop 43 (e ++ drop (1 + length c - 1) (replicate 47 0)))))
+      ≡ place_bytes (some (loan_of c b))
   unfolding place_bytes
   place-made b d q =
-      let t : take 43 (e ++ last) ≡ e = take_at e last 43 size in
-      let r : drop 43 (e ++ last) ≡ last = drop_at e last 43 size in
+      let t : take 43 (e ++ drop (1 + length c - 1) (replicate 47 0)) ≡ front = ap (take 43) filled ∙ take_at front last 43 size in
+      let r : drop 43 (e ++ drop (1 + length c - 1) (replicate 47 0)) ≡ last = ap (drop 43) filled ∙ drop_at front last 43 size in
       let w : d ≡ digits 8 4 b = q ∙ ap (λ (x : List ℕ). digits 8 (length (take 4 x)) b) r in
-      let a : e ++ digits 8 4 b ≡ c ++ (zeros (43 - length c) ++ digits 8 4 b) =
-      ap (λ (x : List ℕ). x ++ digits 8 4 b) filled ∙ append_assoc c (zeros (43 - length c)) (digits 8 4 b) in
-      rw (t, r, w, append-nil (digits 8 4 b), a)
+      rw (t, r, w, append-nil (digits 8 4 b), append_assoc c (zeros (43 - length c)) (digits 8 4 b))
 
 -- ---- one place written
 
-pub put_written : (area place e : List ℕ) (i : ℕ) → length area ≡ 12288 → i < 256 → length place ≡ 48
-    → e ≡ take (length place) place ++ drop (length place) (take (48 * i + 48 - 48 * i) (drop (48 * i) area))
+pub put_written : (area place e : List ℕ) (i : ℕ) → length place ≡ 48 → e ≡ place
     → take (48 * i) area ++ (e ++ drop (48 * i + 48 - 48 * i) (drop (48 * i) area)) ≡ pasted (48 * i) place area
 unfolding pasted
-put_written area place e i l h n q =
-    let k : 48 * i + 48 - 48 * i ≡ 48 = omega arith in
-    let m : length (take 48 (drop (48 * i) area)) ≡ 48 = length-take-le 48 (drop (48 * i) area) (omega (arith, length-drop (48 * i) area)) in
-    let z : drop 48 (take 48 (drop (48 * i) area)) ≡ [] = drop_of_length-le (take 48 (drop (48 * i) area)) {i = 48} (omega (arith, m)) in
-    let w : e ≡ place =
-    q ∙ ap (λ (j : ℕ). take (length place) place ++ drop (length place) (take j (drop (48 * i) area))) k
-    ∙ ap (λ (j : ℕ). take (length place) place ++ drop j (take 48 (drop (48 * i) area))) n ∙ ap (λ (x : List ℕ). take (length place) place ++ x) z
-    ∙ append-nil (take (length place) place) ∙ take-length place in
-    rw (w, k, drop-drop 48 (48 * i) area, n)
+put_written area place e i n w = let k : 48 * i + 48 - 48 * i ≡ 48 = omega arith in rw (w, k, drop-drop 48 (48 * i) area, n)
 
 -- ---- the borrower in a place: four bytes hold no more than the number read from them
 

@@ -35,7 +35,7 @@ fn put(places: &mut [u8], i: usize, place: &[u8])
     ensures { places.new ≡ pasted (48 * i) place.now places.old }
 {
     let start = PLACE_LENGTH * i;
-    bytes::copy(place, &mut places[start..start + PLACE_LENGTH]);
+    places[start..start + PLACE_LENGTH].copy_from_slice(place);
 }
 
 // Puts a place in at a number. The used ones from there on move one place on.

@@ -59,7 +59,7 @@ pub fn place_of(code: &[u8], borrower: u32) -> [u8; 48]
 {
     let mut place = [0u8; 48];
     place[0] = code.len() as u8;
-    bytes::copy(code, &mut place[CODE_OFFSET..BORROWER_OFFSET]);
+    place[CODE_OFFSET..CODE_OFFSET + code.len()].copy_from_slice(code);
     octets::number::write(borrower, &mut place[BORROWER_OFFSET..PLACE_LENGTH]);
     place
 }

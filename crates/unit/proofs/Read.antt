@@ -55,11 +55,11 @@ pub permitted-as : (m : MainType) (s v l : ℕ) {p : Bool} → p ≡ permits_as 
 unfolding permits_as
 permitted-as m s v l e h = sym (e ∙ rw (lt-ltb m.number 7 h))
 
-pub length-small : (m : MainType) (s v l : ℕ) {p : Bool} → p ≡ permits_as m s v l → m.number < 7 → not p ≡ false → l ≤ 7
-length-small m s v l {p} e h z = (small (type_of m.number) s v l (permitted-as m s v l e h ∙ not-false p z)).length_number
+pub length-small : (m : MainType) (s v l : ℕ) {p : Bool} → p ≡ permits_as m s v l → m.number < 7 → p ≡ true → l ≤ 7
+length-small m s v l {p} e h z = (small (type_of m.number) s v l (permitted-as m s v l e h ∙ z)).length_number
 
 pub known-length : (n : ℕ) {a : Named} (m : MainType) (s v l : ℕ) {p : Bool} → a ≡ named_as (main_type_of n) → a ≡ named.MainType m
-    → p ≡ permits_as m s v l → not p ≡ false → l ≤ 7
+    → p ≡ permits_as m s v l → p ≡ true → l ≤ 7
 known-length n m s v l e f g z = length-small m s v l g (known-below n m e f) z
 
 -- what the header reader tells
@@ -110,17 +110,17 @@ module _ (bs : List ℕ) (h : RawHeader) (e : header_read_as (read_header bs) �
     permits-is = permitted-as m s v l ep type-is.below
 
     -- what `body_bytes` asks
-    pub item-length : not p ≡ false → l ≤ 7
+    pub item-length : p ≡ true → l ≤ 7
     item-length z = length-small m s v l ep type-is.below z
 
-    pub item-bad : not p ≡ true → Refused not_permitted ≡ unit_read_as (read_item bs)
+    pub item-bad : p ≡ false → Refused not_permitted ≡ unit_read_as (read_item bs)
     unfolding read_item
-    item-bad z = rw (header_is, type-is.is, permits-is, not-true p z)
+    item-bad z = rw (header_is, type-is.is, permits-is, z)
 
-    module _ (z : not p ≡ false) {k : ℕ} (ek : k ≡ body_bytes (type_of m.number) s l) where
+    module _ (z : p ≡ true) {k : ℕ} (ek : k ≡ body_bytes (type_of m.number) s l) where
       pub item-short : length bs < h.used + k → Refused short_body ≡ unit_read_as (read_item bs)
       unfolding read_item
-      item-short t = rw (header_is, type-is.is, permits-is, not-false p z, ← ek, lt-leb (h.used + k) (length bs) t)
+      item-short t = rw (header_is, type-is.is, permits-is, z, ← ek, lt-leb (h.used + k) (length bs) t)
 
       pub item-good : h.used + k ≤ length bs
           → Unit (record { main_type = m; subtype = s; version = v; length_number = l; start = h.used; used = h.used + k }) ≡ unit_read_as (read_item bs)
@@ -128,4 +128,4 @@ module _ (bs : List ℕ) (h : RawHeader) (e : header_read_as (read_header bs) �
       item-good t =
           let n : length (take k (drop h.used bs)) ≡ k = length-take-le k (drop h.used bs) (simp length-drop (omega arith)) in
           let b : h.used + k - k ≡ h.used = omega arith in
-          rw (header_is, type-is.is, permits-is, not-false p z, ← ek, le-leb (h.used + k) (length bs) t, n, b, type-is.same)
+          rw (header_is, type-is.is, permits-is, z, ← ek, le-leb (h.used + k) (length bs) t, n, b, type-is.same)

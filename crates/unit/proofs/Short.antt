@@ -103,10 +103,10 @@ module _ (bs : List ℕ) (below : Below 256 bs) where
       by-type : (i : Item) → read_one bs ≡ accept i → Told (type_of m.number)
       by-type i e = subst Told (accept-inj (sym (type-of i e) ∙ type-is.is)) (told i e)
 
-      pub no_row : not p ≡ true → false ≡ is_accepted (read_one bs)
-      no_row f = none (λ i e. true≢false (sym (by-type i e).permitted ∙ permits-is ∙ not-true p f))
+      pub no_row : p ≡ false → false ≡ is_accepted (read_one bs)
+      no_row f = none (λ i e. true≢false (sym (by-type i e).permitted ∙ permits-is ∙ f))
 
-      module _ (l : 2 ≤ length bs) (f : not p ≡ false) {k : ℕ} (ek : k ≡ body_bytes (type_of m.number) (x % 16) (y % 16)) where
+      module _ (l : 2 ≤ length bs) (f : p ≡ true) {k : ℕ} (ek : k ≡ body_bytes (type_of m.number) (x % 16) (y % 16)) where
         size_is : k ≡ body_bytes (type_of m.number) (a % 16) (b % 16)
         size_is = rw (← ex, ← ey) ek
 
@@ -114,7 +114,7 @@ module _ (bs : List ℕ) (below : Below 256 bs) where
         test-is true e =
             let w : length bs ≡ 2 + k = eqb-true (length bs) (2 + k) e in
             let t : number (type_of m.number) ≡ a / 16 = rw (← ex) (main_type_of-back (x / 16) (type_of m.number) type-is.is) in
-            made (type_of m.number) l (record { main_type = t; permitted = permits-is ∙ not-false p f; whole = rw (← size_is) w })
+            made (type_of m.number) l (record { main_type = t; permitted = permits-is ∙ f; whole = rw (← size_is) w })
         test-is false e = none (λ i r. eqb-false (length bs) (2 + k) e (rw size_is (by-type i r).whole))
 
         pub whole-test : eqb (length bs) (2 + k) ≡ is_accepted (read_one bs)

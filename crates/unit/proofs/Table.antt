@@ -115,13 +115,13 @@ body-units s l k u g e = rw e (units-bytes s l k (is_wide s l) refl g)
 
 -- the definition tests the version before the row
 module _ (m : MainType) (s v l : ℕ) where
-  pub permits-not : {r : Bool} → r ≡ in_row m s l → not r ≡ true → false ≡ permits_as m s v l
+  pub permits-not : {r : Bool} → r ≡ in_row m s l → r ≡ false → false ≡ permits_as m s v l
   unfolding in_row permits_as
-  permits-not {r} e n = sym (and_last (ltb m.number 7) (eqb v 0) (row (type_of m.number) s l) ∙ rw (← e, not-true r n))
+  permits-not {r} e n = sym (and_last (ltb m.number 7) (eqb v 0) (row (type_of m.number) s l) ∙ rw (← e, n))
 
-  pub permits-version : {r : Bool} → r ≡ in_row m s l → not r ≡ false → eqb v 0 ≡ permits_as m s v l
+  pub permits-version : {r : Bool} → r ≡ in_row m s l → r ≡ true → eqb v 0 ≡ permits_as m s v l
   unfolding in_row permits_as
-  permits-version {r} e n = sym (and_last (ltb m.number 7) (eqb v 0) (row (type_of m.number) s l) ∙ rw (← e, not-false r n))
+  permits-version {r} e n = sym (and_last (ltb m.number 7) (eqb v 0) (row (type_of m.number) s l) ∙ rw (← e, n))
 
 -- the bodies by number
 module _ (n s l : ℕ) {t : Bool} where

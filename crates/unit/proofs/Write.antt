@@ -38,10 +38,10 @@ unfolding main_type_of
 unnamed n h = rw (le-ltb n 7 h)
 
 -- what a permitted header tells
-module _ (m : MainType) (s v l : ℕ) {p : Bool} (e : p ≡ permits_as m s v l) (ok : not p ≡ false) where
+module _ (m : MainType) (s v l : ℕ) {p : Bool} (e : p ≡ permits_as m s v l) (ok : p ≡ true) where
   both : (ltb m.number 7 ≡ true) × (permits (type_of m.number) s v l ≡ true)
   unfolding permits_as
-  both = both_true (ltb m.number 7) _ (sym e ∙ not-false p ok)
+  both = both_true (ltb m.number 7) _ (sym e ∙ ok)
 
   pub type-small : m.number < 7
   type-small = ltb-true m.number 7 both.0
@@ -80,10 +80,10 @@ module _ (m : MainType) (s v l : ℕ) (body d : List ℕ) where
           | no h ↦ rw (unnamed m.number (omega arith))
         ]
 
-    pub write-8 : not p ≡ true → Answers (Refused not_permitted) d
-    write-8 f = rw (not-unit (not-true p f)) (refl, refl)
+    pub write-8 : p ≡ false → Answers (Refused not_permitted) d
+    write-8 f = rw (not-unit f) (refl, refl)
 
-    module _ {t : Bool} (et : t ≡ eqb m.number (number ISCC)) (unit : t ≡ false) (ok : not p ≡ false) {k : ℕ} (ek : k ≡ body_bytes (type_of m.number) s l) where
+    module _ {t : Bool} (et : t ≡ eqb m.number (number ISCC)) (unit : t ≡ false) (ok : p ≡ true) {k : ℕ} (ek : k ≡ body_bytes (type_of m.number) s l) where
       unit-is : unit_bytes (header_with m s v l) body ≡ (leb k (length body) otherwise short_body >> accept (header_bytes (header_with m s v l) ++ take k body))
       unfolding unit_bytes
       unit-is =

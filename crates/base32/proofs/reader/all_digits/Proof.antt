@@ -2,7 +2,6 @@
 use Prim.Native.Nat.{◌-◌}
 use mathlib.Core.Bool.{cond}
 use mathlib.Core.Path.{◌∙◌}
-use mathlib.Core.Logic.{⊎_elim}
 use native.Mathlib.Omega.{arith}
 use lib.ListN.{length}
 use borrow.Author.Rules.{rules}
@@ -11,6 +10,7 @@ use Rattle.iscc.specs.Base32.{base32}
 use Rattle.iscc.proofs.FirstNot.{Largest, largest-none, largest-new, largest-kept, largest-all}
 use Rattle.base32.proofs.Characters.{all-inside}
 use Rattle.base32.proofs.reader.all_digits.Statement.{statement}
+use Rattle.base32.proofs.reader.all_digits.Lts.{then-most-bad, else-most-bad}
 use Rattle.base32.proofs.reader.all_digits.Tie as tie
 
 abbrev invariant-loop : tie.invariant-loop-i
@@ -26,7 +26,10 @@ loop-again : tie.Need-loop-i-preserved invariant-loop decreases-loop
 loop-again c =
     let d = c.before in
     let s = d.before.before.before.loop-i.invariant in
-    ⊎_elim (λ w. rw w.1 (largest-new _ s (search rules) d.outside_alphabet-bad.ensures w.0.taken)) (λ w. rw w.1 (largest-kept _ s (search rules) d.outside_alphabet-bad.ensures w.0.left)) c.if-most-bad.branch
+    elim c.if-most-bad.branch [
+      | then-most-bad w ↦ rw w.most-is (largest-new _ s (search rules) d.outside_alphabet-bad.ensures w.if-most-bad.true)
+      | else-most-bad w ↦ rw w.most-is (largest-kept _ s (search rules) d.outside_alphabet-bad.ensures w.if-most-bad.false)
+    ]
 
 returns : tie.Need-returns invariant-loop decreases-loop
 unfolding base32

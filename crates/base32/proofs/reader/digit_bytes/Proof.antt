@@ -23,7 +23,7 @@ mul-result : tie.Need-overflow_mul-result
 mul-result c = omega (arith, (bytes c).top)
 
 sub-result : tie.Need-overflow_sub-result
-sub-result c = (bytes c).ranges
+sub-result c = (bytes c).fits
 
 returns : tie.Need-returns
 returns c = (bytes c).is

@@ -72,7 +72,7 @@ put-requires-2 c κs =
 done : (c : tie.After-put-2 invariant-loop decreases-loop) →
     let a = c.before.before.before.before.before.before.before.args in
     let n = length a.text.now in
-    WrittenFront (digits 8 (byte_count 5 n) (value 5 (map (digit_in base32) a.text.now) / 2 ^ spare_count 5 n)) a.out-1.now c.put-2.new.1.1.0 (byte_count 5 n)
+    WrittenFront (digits 8 (byte_count 5 n) (value 5 (map (digit_in base32) a.text.now) / 2 ^ spare_count 5 n)) a.out.now c.put-2.new.out (byte_count 5 n)
 done c =
     let load = c.before.before in
     let at = load.before.before in

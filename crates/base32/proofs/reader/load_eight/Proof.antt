@@ -22,7 +22,7 @@ add-two : tie.Need-overflow_add-two
 add-two c = omega (arith, (joined c).two_fits)
 
 add-result : tie.Need-overflow_add-result
-add-result c = omega (arith, (joined c).is, (joined c).ranges)
+add-result c = omega (arith, (joined c).is, (joined c).fits)
 
 returns : tie.Need-returns
 returns c = let e = joined c in (e.is, rw e.is e.fits)

@@ -4,7 +4,7 @@ use mathlib.Core.Path.{◌≡◌, refl, sym, ◌∙◌}
 use mathlib.Core.Bool.{true}
 use native.Mathlib.Omega.{arith}
 use borrow.Author.Rules.{rules}
-use borrow.Author.Tests.{not-true, not-false, ltb-true}
+use borrow.Author.Tests.{ltb-true}
 use lib.ListN.{length}
 use lib.Dec.{ltb}
 use Rattle.iscc.specs.Digits.{spare_count}
@@ -24,7 +24,7 @@ in-alphabet : (c : tie.Else-first_bad-text) → let t = c.before.before.before.b
 in-alphabet c = rw (← c.before.first_bad.ensures) c.if-first_bad-text.false
 
 right-count : (c : tie.Else-not-whole_count) → ltb (spare_count 5 (length c.before.before.before.before.before.before.args.text.now)) 5 ≡ true
-right-count c = sym c.before.whole_count.ensures ∙ not-false _ c.if-not-whole_count.false
+right-count c = sym c.before.whole_count.ensures ∙ c.if-not-whole_count.false
 
 no-spare : (c : tie.Else-spare-ne0) → let t = c.before.before.before.before.before.before.before.before.args.text.now in decode base32 t ≡ accept (bytes_of base32 t)
 unfolding base32
@@ -37,7 +37,7 @@ returns c = refused _ (refused-4 base32 _ (rw c.before.first_bad.ensures at c.if
 
 returns-2 : tie.Need-returns-then-not-whole_count
 unfolding base32
-returns-2 c = refused _ (refused-5 base32 _ (in-alphabet c.before.before) (sym c.before.whole_count.ensures ∙ not-true _ c.if-not-whole_count.true)) refl
+returns-2 c = refused _ (refused-5 base32 _ (in-alphabet c.before.before) (sym c.before.whole_count.ensures ∙ c.if-not-whole_count.true)) refl
 
 spare-requires : tie.Need-spare-requires
 unfolding base32
@@ -54,7 +54,7 @@ unfolding base32
 returns-4 c =
     let b = c.before in
     let a = b.before.before.before.before.before.before.before.before.before.args in
-    rw (no-spare b.before) (too_short (bytes_of base32 a.text.now) a.out-1.now (omega (arith, length-bytes base32 a.text.now, b.byte_length-count.ensures, c.if-out-count.true)) refl)
+    rw (no-spare b.before) (too_short (bytes_of base32 a.text.now) a.out.now (omega (arith, length-bytes base32 a.text.now, b.byte_length-count.ensures, c.if-out-count.true)) refl)
 
 fill-requires : tie.Need-fill-requires
 unfolding base32
@@ -66,7 +66,7 @@ fill-requires c κs =
 done : (c : tie.After-fill) →
     let b = c.before.before.before in
     let a = b.before.before.before.before.before.before.before.before.before.args in
-    WrittenFront (bytes_of base32 a.text.now) a.out-1.now c.fill.new.1.0 b.byte_length-count.result
+    WrittenFront (bytes_of base32 a.text.now) a.out.now c.fill.new.out b.byte_length-count.result
 unfolding base32
 done c =
     let b = c.before.before.before in

@@ -78,7 +78,7 @@ put-requires-2 c κs =
 -- all is written
 done : (c : tie.After-put-2 invariant-loop decreases-loop) →
     let at = c.before.before.before.before.before in
-    WrittenFront (encode base32 at.before.before.before.before.args.bytes.now) at.before.before.before.before.args.out_1.now c.put-2.new.1.1.1.0 (digit_count 5 (length at.before.before.before.before.args.bytes.now))
+    WrittenFront (encode base32 at.before.before.before.before.args.bytes.now) at.before.before.before.before.args.out.now c.put-2.new.out (digit_count 5 (length at.before.before.before.before.args.bytes.now))
 unfolding base32
 done c =
     let load = c.before.before in

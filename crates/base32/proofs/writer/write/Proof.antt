@@ -14,12 +14,12 @@ returns : tie.Need-returns-then-out-count
 unfolding base32
 returns c =
     let a = c.before.before.before.before.args in
-    too_short (encode base32 a.bytes.now) a.out-1.now (omega (arith, length-encode base32 a.bytes.now, c.if-out-count.true)) refl
+    too_short (encode base32 a.bytes.now) a.out.now (omega (arith, length-encode base32 a.bytes.now, c.if-out-count.true)) refl
 
 -- the text is written
 done : (c : tie.After-fill) →
     let a = c.before.before.before.before.before.before.args in
-    WrittenFront (encode base32 a.bytes.now) a.out-1.now c.fill.new.1.0 c.before.before.before.text_length-count.result
+    WrittenFront (encode base32 a.bytes.now) a.out.now c.fill.new.out c.before.before.before.text_length-count.result
 unfolding base32
 done c =
     let t = c.before.before.before in

@@ -9,21 +9,21 @@ use Rattle.iscc.proofs.FirstNot.{Passed, passed_none, passed-one, failed, passed
 use Rattle.commands.proofs.words.blanks.Statement.{statement}
 use Rattle.commands.proofs.words.blanks.Tie as tie
 
-abbrev invariant-loop : tie.invariant-loop
+abbrev invariant-loop : tie.invariant-loop-i
 invariant-loop text i₀ i = Passed is_blank text i
 
-abbrev decreases-loop : tie.decreases-loop
+abbrev decreases-loop : tie.decreases-loop-i
 decreases-loop text i₀ i = length text - i
 
-loop-again : tie.Need-loop-preserved invariant-loop decreases-loop
+loop-again : tie.Need-loop-i-preserved invariant-loop decreases-loop
 loop-again c =
     let test = c.before.before.before in
-    passed-one test.before.loop.invariant test.loop-test.true (sym c.before.is-blank.ensures ∙ c.if1.true)
+    passed-one test.before.loop-i.invariant test.loop-i-test.true (sym c.before.is_blank.ensures ∙ c.if-is_blank.true)
 
-returns : tie.Need-returns invariant-loop decreases-loop
+returns : tie.Need-returns-else-is_blank invariant-loop decreases-loop
 returns c =
     let test = c.before.before.before in
-    (failed test.before.loop.invariant test.loop-test.true (sym c.before.is-blank.ensures ∙ c.if1.false), omega arith)
+    (failed test.before.loop-i.invariant test.loop-i-test.true (sym c.before.is_blank.ensures ∙ c.if-is_blank.false), omega arith)
 
 pub blanks_spec : {M : Type 1} → statement M
 blanks_spec =
@@ -38,4 +38,4 @@ blanks_spec =
     (λ c. omega arith)
     loop-again
     returns
-    (λ c. (passed-all c.before.loop.invariant c.loop-test.false, c.before.loop.invariant.within)))
+    (λ c. (passed-all c.before.loop-i.invariant c.loop-i-test.false, c.before.loop-i.invariant.within)))

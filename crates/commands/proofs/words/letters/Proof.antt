@@ -10,21 +10,21 @@ use Rattle.commands.specs.Commands.{not_blank}
 use Rattle.commands.proofs.words.letters.Statement.{statement}
 use Rattle.commands.proofs.words.letters.Tie as tie
 
-abbrev invariant-loop : tie.invariant-loop
+abbrev invariant-loop : tie.invariant-loop-i
 invariant-loop text i₀ i = Passed not_blank text i
 
-abbrev decreases-loop : tie.decreases-loop
+abbrev decreases-loop : tie.decreases-loop-i
 decreases-loop text i₀ i = length text - i
 
-returns : tie.Need-returns invariant-loop decreases-loop
+returns : tie.Need-returns-then-is_blank invariant-loop decreases-loop
 returns c =
     let test = c.before.before.before in
-    (failed test.before.loop.invariant test.loop-test.true (ap not (sym c.before.is-blank.ensures ∙ c.if1.true)), omega arith)
+    (failed test.before.loop-i.invariant test.loop-i-test.true (ap not (sym c.before.is_blank.ensures ∙ c.if-is_blank.true)), omega arith)
 
-loop-again : tie.Need-loop-preserved invariant-loop decreases-loop
+loop-again : tie.Need-loop-i-preserved invariant-loop decreases-loop
 loop-again c =
     let test = c.before.before.before in
-    passed-one test.before.loop.invariant test.loop-test.true (ap not (sym c.before.is-blank.ensures ∙ c.if1.false))
+    passed-one test.before.loop-i.invariant test.loop-i-test.true (ap not (sym c.before.is_blank.ensures ∙ c.if-is_blank.false))
 
 pub letters_spec : {M : Type 1} → statement M
 letters_spec =
@@ -39,4 +39,4 @@ letters_spec =
     (λ c. omega arith)
     (λ c. omega arith)
     loop-again
-    (λ c. (passed-all c.before.loop.invariant c.loop-test.false, c.before.loop.invariant.within)))
+    (λ c. (passed-all c.before.loop-i.invariant c.loop-i-test.false, c.before.loop-i.invariant.within)))

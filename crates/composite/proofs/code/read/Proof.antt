@@ -13,22 +13,18 @@ use borrow.Author.Rules.{rules}
 use Rattle.composite.proofs.code.read.Statement.{statement}
 use Rattle.composite.proofs.code.read.Tie as tie
 
-room : (c : tie.After-write) (out : List ℕ) → canonical_bytes c.before.before.before.args.bytes.now ≡ accept out → length out ≤ 42
-room c = let s = c.before.before in canonical-most s.before.args.bytes.now (below_all 256 s.before.args.bytes.now (λ i h. omega (arith, s.shared-slice-known.given i)))
+room : (c : tie.After-write) (out : List ℕ) → canonical_bytes c.args.bytes.now ≡ accept out → length out ≤ 42
+room c = let s = c in canonical-most s.args.bytes.now (below_all 256 s.args.bytes.now (λ i h. omega (arith, s.shared_slice_known-1.given i)))
 
-returns : tie.Need-returns
+returns : tie.Need-returns-in-Length
 returns c =
-    let l = c.before.before in
-    let w = l.before.before.before in
-    let b = w.before.before.before.args.bytes.now in
-    area-value (detail_of b) _ _ (canonical_bytes b) (room w) _ _ w.write.ensures.0 w.write.ensures.1 l.length.given.1 c.accepted.ensures
+    let b = c.args.bytes.now in
+    area-value (detail_of b) _ _ (canonical_bytes b) (room c.before.before.before) _ _ c.write.ensures.0 c.write.ensures.1 c.in-Length.is c.accepted.ensures
 
-returns-2 : tie.Need-returns-2
+returns-2 : tie.Need-returns-in-Refused
 returns-2 c =
-    let l = c.before.before in
-    let w = l.before.before.before in
-    let b = w.before.before.before.args.bytes.now in
-    none-value (detail_of b) _ _ (canonical_bytes b) (room w) _ _ w.write.ensures.0 l.q.given.1 c.refused.ensures
+    let b = c.args.bytes.now in
+    none-value (detail_of b) _ _ (canonical_bytes b) (room c.before.before.before) _ _ c.write.ensures.0 c.in-Refused.is c.refused.ensures
 
 pub read_spec : {M : Type 1} → statement M
 read_spec =

@@ -16,33 +16,26 @@ use borrow.Author.Rules.{rules}
 use Rattle.composite.proofs.code.write.Statement.{statement}
 use Rattle.composite.proofs.code.write.Tie as tie
 
-write-items-requires : tie.Need-write-items-requires
+write-items-requires : tie.Need-write_items-requires
 write-items-requires c κs i e =
-    let t = c.before in
-    let r = t.before.before in
-    never (sym (one-not _ _ (sym r.read.ensures ∙ t.enum_told.given.1)) ∙ e)
+    never (sym (one-not _ _ (sym c.read-one.ensures ∙ c.in-Refused.is)) ∙ e)
 
 -- one item's own bytes are the code
-own : (c : tie.After-enum-told2) → let b = c.before.before.before.before.before.args.bytes.now in canonical_bytes b ≡ accept b
+own : (c : tie.In-Unit) → let b = c.args.bytes.now in canonical_bytes b ≡ accept b
 own c =
-    let r = c.before.before in
-    let b = r.before.before in
-    let o = one-is _ _ (sym r.read.ensures ∙ c.enum-told2.given.1) in
-    canonical-one _ o.item (below_all 256 b.before.args.bytes.now (λ i h. omega (arith, b.shared-slice-known.given i))) o.is
+    let o = one-is _ _ (sym c.read-one.ensures ∙ c.in-Unit.is) in
+    canonical-one _ o.item (below_all 256 c.args.bytes.now (λ i h. omega (arith, c.shared_slice_known-1.given i))) o.is
 
-returns : tie.Need-returns
+returns : tie.Need-returns-then-out-bytes
 returns c =
-    let t = c.before in
-    let a = t.before.before.before.before.before.args in
-    short-coded (detail_of a.bytes.now) _ a.out.now _ (own t) c.if1.true
+    let a = c.args in
+    short-coded (detail_of a.bytes.now) _ a.out.now _ (own c.before) c.if-out-bytes.true
 
-returns-3 : tie.Need-returns-3
+returns-3 : tie.Need-returns-else-out-bytes
 returns-3 c =
-    let w = c.before.before in
-    let t = w.before.before.before in
-    let a = t.before.before.before.before.before.args in
-    all_coded (detail_of a.bytes.now) _ a.out.now _ (own t) _ w.before.before.if1.false
-    (w.copy.ensures.1 ∙ ap (λ (x : List ℕ). x ++ drop (length a.bytes.now) a.out.now) (take-length a.bytes.now))
+    let a = c.args in
+    all_coded (detail_of a.bytes.now) _ a.out.now _ (own c.before.before.before.before.before) _ c.if-out-bytes.false
+    (ap (λ (x : List ℕ). x ++ drop (length a.bytes.now) a.out.now) c.copy_from_slice.ensures.1)
 
 pub write_spec : {M : Type 1} → statement M
 write_spec =
@@ -53,6 +46,8 @@ write_spec =
     write-items-requires
     (λ c. search rules)
     returns
+    (λ c. search rules)
+    (λ c. search rules)
     (λ c κs. search rules)
     (λ c. search rules)
     (λ c. search rules)

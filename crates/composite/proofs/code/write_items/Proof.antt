@@ -14,29 +14,21 @@ use borrow.Author.Rules.{rules}
 use Rattle.composite.proofs.code.write_items.Statement.{statement}
 use Rattle.composite.proofs.code.write_items.Tie as tie
 
-write-list-requires : tie.Need-write-list-requires
+write-list-requires : tie.Need-write_list-requires
 write-list-requires c κs =
-    let t = c.before in
-    let r = t.before.before.before in
-    listed_of _ r.read.ensures.0 _ r.read.ensures.1 t.enum_told.given.1
+    listed_of _ c.read-read.ensures.0 _ c.read-read.ensures.1 c.in-Items.is
 
-returns : tie.Need-returns
+returns : tie.Need-returns-in-Refused
 returns c =
-    let r = c.before.before.before.before in
-    unread-coded _ _ _ _ (read-refused _ r.read.ensures.0 _ _ c.before.answer.given.1)
+    unread-coded _ _ _ _ (read-refused _ c.read-read.ensures.0 _ _ c.in-Refused.is)
 
-returns-2 : tie.Need-returns-2
+returns-2 : tie.Need-returns-in-Items
 returns-2 c =
-    let w = c.before.before in
-    let t = w.before.before in
-    let r = t.before.before.before in
-    let b = r.before.before in
-    let s = b.before in
-    let l = listed_of _ r.read.ensures.0 _ r.read.ensures.1 t.enum_told.given.1 in
-    let k = two-at-least _ _ l (below_all 256 s.args.bytes.now (λ i h. omega (arith, b.shared-slice-known.given i))) s.requires in
+    let l = listed_of _ c.read-read.ensures.0 _ c.read-read.ensures.1 c.in-Items.is in
+    let k = two-at-least _ _ l (below_all 256 c.args.bytes.now (λ i h. omega (arith, c.shared_slice_known-1.given i))) c.requires in
     let e = canonical-more _ _ l k in (
-      w.write-list.ensures.0 ∙ ap (coded_into (length s.args.out.now) (detail_of s.args.bytes.now)) (sym e),
-      w.write-list.ensures.1 ∙ ap (λ (x : Answer (List ℕ)). area_after (into (length s.args.out.now) x) s.args.out.now) (sym e),
+      c.write_list.ensures.0 ∙ ap (coded_into (length c.args.out.now) (detail_of c.args.bytes.now)) (sym e),
+      c.write_list.ensures.1 ∙ ap (λ (x : Answer (List ℕ)). area_after (into (length c.args.out.now) x) c.args.out.now) (sym e),
     )
 
 pub write_items_spec : {M : Type 1} → statement M

@@ -16,48 +16,37 @@ use Rattle.composite.proofs.code.write_list.Statement.{statement}
 use Rattle.composite.proofs.code.write_list.Tie as tie
 
 -- what a list that passed every test makes
-makes-composite : (c : tie.After-enum-told) →
-    let a = c.before.before.before.before.before.args in
+makes-composite : (c : tie.In-Composite) →
+    let a = c.args in
     (m : Meaning) × Makes a.bytes.now a.list m × (composed_bytes a.bytes.now ≡ accept (item_bytes (item_of m)))
 makes-composite c =
-    let d = c.before.before in
-    let b = d.before.before in
-    let s = b.before in
-    verdict-makes _ _ s.requires d.decide.ensures (below_all 256 s.args.bytes.now (λ i h. omega (arith, b.shared-slice-known.given i))) c.enum_told.given.1
+    verdict-makes _ _ c.requires c.decide-verdict.ensures (below_all 256 c.args.bytes.now (λ i h. omega (arith, c.shared_slice_known-1.given i))) c.in-Composite.is
 
-from-list-requires : tie.Need-from-list-requires
+from-list-requires : tie.Need-from_list-c-requires
 from-list-requires c κs = let k = makes-composite c in (k.0, k.1)
 
 write-requires : tie.Need-write-requires
 write-requires c κs =
-    let f = c.before in
-    let k = makes-composite f.before in
-    makes-sound _ _ k.0 k.1 _ (f.from_list.ensures k.0 k.1)
+    let k = makes-composite c.before.before in
+    makes-sound _ _ k.0 k.1 _ (c.from_list-c.ensures k.0 k.1)
 
-returns : tie.Need-returns
+returns : tie.Need-returns-in-Refused
 returns c =
-    let v = c.before in
-    let d = v.before.before in
-    let s = d.before.before.before in
-    broken-coded _ s.args.out.now _ s.requires _ _ (verdict-refuses _ _ s.requires d.decide.ensures _ _ v.verdict.given.1)
+    broken-coded _ c.args.out.now _ c.requires _ _ (verdict-refuses _ _ c.requires c.decide-verdict.ensures _ _ c.in-Refused.is)
 
 -- what is to be written
-composed : (c : tie.After-from-list) → composed_bytes c.before.before.before.before.before.before.args.bytes.now ≡ accept (composite_bytes c.from_list.result)
-composed c = let k = makes-composite c.before in k.2 ∙ ap accept (sym (makes-bytes _ _ k.0 k.1 _ (c.from_list.ensures k.0 k.1)))
+composed : (c : tie.After-from_list-c) → composed_bytes c.args.bytes.now ≡ accept (composite_bytes c.from_list-c.result)
+composed c = let k = makes-composite c.before in k.2 ∙ ap accept (sym (makes-bytes _ _ k.0 k.1 _ (c.from_list-c.ensures k.0 k.1)))
 
-returns-2 : tie.Need-returns-2
+returns-2 : tie.Need-returns-in-Length
 returns-2 c =
-    let w = c.before.before.before.before.before in
-    let f = w.before.before in
-    let a = f.before.before.before.before.before.before.args in
-    writer-coded (detail_of a.bytes.now) _ a.out.now _ (composed f) _ _ (w.write.ensures.0, w.write.ensures.1) _ c.before.n.given.1
+    let a = c.args in
+    writer-coded (detail_of a.bytes.now) _ a.out.now _ (composed c.before.before.before.before.before) _ _ (c.write.ensures.0, c.write.ensures.1) _ c.in-Length.is
 
-returns-3 : tie.Need-returns-3
+returns-3 : tie.Need-returns-in-Refused-write
 returns-3 c =
-    let w = c.before.before.before.before.before in
-    let f = w.before.before in
-    let a = f.before.before.before.before.before.before.args in
-    writer-refused (detail_of a.bytes.now) _ a.out.now _ (composed f) _ _ (w.write.ensures.0, w.write.ensures.1) _ c.before.q.given.1
+    let a = c.args in
+    writer-refused (detail_of a.bytes.now) _ a.out.now _ (composed c.before.before.before.before.before) _ _ (c.write.ensures.0, c.write.ensures.1) _ c.in-Refused-write.is
 
 pub write_list_spec : {M : Type 1} → statement M
 write_list_spec =

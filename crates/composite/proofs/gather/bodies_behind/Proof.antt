@@ -13,26 +13,26 @@ use Rattle.composite.proofs.gather.bodies_behind.Tie as tie
 abbrev body : List ℕ → ℕ → List ℕ
 body bytes j = take 8 (drop (2 + j * 8) bytes)
 
-abbrev invariant-loop : tie.invariant-loop
+abbrev invariant-loop : tie.invariant-loop-i
 invariant-loop bytes count found₀ i₀ out i = (i ≤ count) × (out ≡ filled_bodies (body bytes) i 5)
 
-abbrev decreases-loop : tie.decreases-loop
+abbrev decreases-loop : tie.decreases-loop-i
 decreases-loop bytes count found₀ i₀ out i = count - i
 
-loop-holds : tie.Need-loop-init invariant-loop decreases-loop
+loop-holds : tie.Need-loop-i-init invariant-loop decreases-loop
 unfolding filled_bodies
 loop-holds c = (omega arith, refl)
 
-loop-again : tie.Need-loop-preserved invariant-loop decreases-loop
+loop-again : tie.Need-loop-i-preserved invariant-loop decreases-loop
 loop-again c =
-    let l = c.before.before.loop in
-    (omega arith, one-filled (body c.before.before.before.before.args.bytes.now) l.i 5 _ _ (omega arith) l.invariant.1 c.eight-bytes.ensures)
+    let l = c.before.before.loop-i in
+    (omega arith, one-filled (body c.before.before.before.before.args.bytes.now) l.i 5 _ _ (omega arith) l.invariant.1 c.eight_bytes.ensures)
 
 returns : tie.Need-returns invariant-loop decreases-loop
 returns c =
     let a = c.before.before.before.args in
-    let n : c.before.loop.i ≡ a.count = omega arith in
-    c.before.loop.invariant.1 ∙ ap (λ (m : ℕ). filled_bodies (body a.bytes.now) m 5) n
+    let n : c.before.loop-i.i ≡ a.count = omega arith in
+    c.before.loop-i.invariant.1 ∙ ap (λ (m : ℕ). filled_bodies (body a.bytes.now) m 5) n
 
 pub bodies_behind_spec : {M : Type 1} → statement M
 bodies_behind_spec =

@@ -6,10 +6,8 @@ use Rattle.composite.proofs.gather.set_length_number.Tie as tie
 
 returns : tie.Need-returns
 returns c =
-    let b = c.before.before in
-    let a = b.before.before in
-    set-number-is a.before.before.args.offsets _ _ _ _ _ _ a.before.offset-of.ensures a.weight-of.ensures b.before.offset-of2.ensures b.weight-of2.ensures
-    c.before.offset-of3.ensures c.weight-of3.ensures
+    set-number-is c.args.offsets _ _ _ _ _ _ c.offset_of.ensures c.weight_of-meta.ensures c.offset_of-2.ensures c.weight_of-semantic.ensures
+    c.offset_of-3.ensures c.weight_of-content.ensures
 
 pub set_length_number_spec : {M : Type 1} → statement M
 set_length_number_spec =

@@ -6,17 +6,15 @@ use borrow.Author.Rules.{rules}
 use Rattle.composite.proofs.join.join_list.Statement.{statement}
 use Rattle.composite.proofs.join.join_list.Tie as tie
 
-returns : tie.Need-returns
+returns : tie.Need-returns-in-Length
 returns c =
-    let w = c.before.before.before.before.before in
-    let a = w.before.before.before.before.args in
-    (coded-length (detail_of a.bytes.now) (composed_bytes a.bytes.now) a.out.now _ _ w.write-list.ensures.0 c.before.n.given.1, w.write-list.ensures.1)
+    let a = c.args in
+    (coded-length (detail_of a.bytes.now) (composed_bytes a.bytes.now) a.out.now _ _ c.write_list.ensures.0 c.in-Length.is, c.write_list.ensures.1)
 
-returns-2 : tie.Need-returns-2
+returns-2 : tie.Need-returns-in-Refused
 returns-2 c =
-    let w = c.before.before.before.before.before in
-    let a = w.before.before.before.before.args in
-    (coded-refused (detail_of a.bytes.now) (composed_bytes a.bytes.now) a.out.now _ _ _ w.write-list.ensures.0 c.before.q.given.1, w.write-list.ensures.1)
+    let a = c.args in
+    (coded-refused (detail_of a.bytes.now) (composed_bytes a.bytes.now) a.out.now _ _ _ c.write_list.ensures.0 c.in-Refused.is, c.write_list.ensures.1)
 
 pub join_list_spec : {M : Type 1} → statement M
 join_list_spec =

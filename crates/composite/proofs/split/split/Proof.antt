@@ -7,13 +7,12 @@ use borrow.Author.Rules.{rules}
 use Rattle.composite.proofs.split.split.Statement.{statement}
 use Rattle.composite.proofs.split.split.Tie as tie
 
-split-item-requires : tie.Need-split-item-requires
-split-item-requires c κs = sym c.before.before.before.before.read.ensures ∙ c.before.before.answer2.given.1
+split-item-requires : tie.Need-split_item-requires
+split-item-requires c κs = sym c.read-answer.ensures ∙ c.in-Unit.is
 
-returns : tie.Need-returns
+returns : tie.Need-returns-in-Refused
 returns c =
-    let r = c.before.before.before in
-    refused r.before.before.before.args.out.now (split-unread _ _ (one-not _ _ (sym r.read.ensures ∙ c.before.answer.given.1))) refl
+    refused c.args.out.now (split-unread _ _ (one-not _ _ (sym c.read-answer.ensures ∙ c.in-Refused.is))) refl
 
 pub split_spec : {M : Type 1} → statement M
 split_spec =

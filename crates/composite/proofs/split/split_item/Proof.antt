@@ -10,62 +10,39 @@ use borrow.Author.Rules.{rules}
 use Rattle.composite.proofs.split.split_item.Statement.{statement}
 use Rattle.composite.proofs.split.split_item.Tie as tie
 
-returns : tie.Need-returns
+returns : tie.Need-returns-then-not-is
 returns c =
-    let s = c.before.before.before.before in
-    refused s.args.out.now (split-other _ _ (one-is _ _ s.requires) c.before.is.ensures (not-true _ c.if1.true)) refl
+    refused c.args.out.now (split-other _ _ (one-is _ _ c.requires) c.is.ensures c.if-not-is.true) refl
 
-write-units-requires : tie.Need-write-units-requires
+write-units-requires : tie.Need-write_units-requires
 write-units-requires c κs =
-    let y = c.before in
-    let w = y.before in
-    let t = w.before in
-    wide_room _ _ (one-is _ _ t.before.before.before.before.requires) (eqb-true _ _ (sym t.before.is.ensures ∙ not-false _ t.if1.false))
-    w.is_IsWide.ensures y.if2.true
+    wide_room _ _ (one-is _ _ c.requires) (eqb-true _ _ (sym c.is.ensures ∙ c.if-not-is.false))
+    c.is_wide.ensures c.if-is_wide.true
 
-returns-2 : tie.Need-returns-2
+returns-2 : tie.Need-returns-then-is_wide
 returns-2 c =
-    let u = c.before.before in
-    let y = u.before.before in
-    let w = y.before in
-    let t = w.before in
-    let s = t.before.before.before.before in
-    answers-same s.args.out.now
-    (wide-whole _ _ (one-is _ _ s.requires) (eqb-true _ _ (sym t.before.is.ensures ∙ not-false _ t.if1.false)) w.is_IsWide.ensures y.if2.true)
-    u.write-units.ensures.0 u.write-units.ensures.1
+    answers-same c.args.out.now
+    (wide-whole _ _ (one-is _ _ c.requires) (eqb-true _ _ (sym c.is.ensures ∙ c.if-not-is.false)) c.is_wide.ensures c.if-is_wide.true)
+    c.write_units.ensures.0 c.write_units.ensures.1
 
-from-code-requires : tie.Need-from-code-requires
+from-code-requires : tie.Need-from_code-c-requires
 from-code-requires c κs =
-    let y = c.before in
-    let w = y.before in
-    let t = w.before in
-    code-room _ _ (one-is _ _ t.before.before.before.before.requires) (eqb-true _ _ (sym t.before.is.ensures ∙ not-false _ t.if1.false))
-    w.is_IsWide.ensures y.if2.false
+    code-room _ _ (one-is _ _ c.requires) (eqb-true _ _ (sym c.is.ensures ∙ c.if-not-is.false))
+    c.is_wide.ensures c.if-is_wide.false
 
-write-units-requires-2 : tie.Need-write-units-requires-2
+write-units-requires-2 : tie.Need-write_units-requires-2
 write-units-requires-2 c κs =
-    let y = c.before.before.before in
-    let w = y.before in
-    let t = w.before in
-    let b = t.before.before.before in
-    split-sound _ _ (one-is _ _ b.before.requires) (eqb-true _ _ (sym t.before.is.ensures ∙ not-false _ t.if1.false))
-    w.is_IsWide.ensures y.if2.false
-    (below_all 256 b.before.args.bytes.now (λ i h. omega (arith, b.shared-slice-known.given i))) _ c.before.from-code.ensures
+    split-sound _ _ (one-is _ _ c.requires) (eqb-true _ _ (sym c.is.ensures ∙ c.if-not-is.false))
+    c.is_wide.ensures c.if-is_wide.false
+    (below_all 256 c.args.bytes.now (λ i h. omega (arith, c.shared_slice_known-1.given i))) _ c.from_code-c.ensures
 
-returns-3 : tie.Need-returns-3
+returns-3 : tie.Need-returns
 returns-3 c =
-    let u = c.before.before in
-    let f = u.before.before in
-    let y = f.before.before in
-    let w = y.before in
-    let t = w.before in
-    let b = t.before.before.before in
-    let s = b.before in
-    answers-same s.args.out.now
-    (split-whole _ _ (one-is _ _ s.requires) (eqb-true _ _ (sym t.before.is.ensures ∙ not-false _ t.if1.false))
-    w.is_IsWide.ensures y.if2.false
-    (below_all 256 s.args.bytes.now (λ i h. omega (arith, b.shared-slice-known.given i))) _ f.from-code.ensures)
-    u.write-units2.ensures.0 u.write-units2.ensures.1
+    answers-same c.args.out.now
+    (split-whole _ _ (one-is _ _ c.requires) (eqb-true _ _ (sym c.is.ensures ∙ c.if-not-is.false))
+    c.is_wide.ensures c.if-is_wide.false
+    (below_all 256 c.args.bytes.now (λ i h. omega (arith, c.shared_slice_known-1.given i))) _ c.from_code-c.ensures)
+    c.write_units-2.ensures.0 c.write_units-2.ensures.1
 
 pub split_item_spec : {M : Type 1} → statement M
 split_item_spec =

@@ -11,39 +11,33 @@ use borrow.Author.Rules.{rules}
 use Rattle.composite.proofs.writer.put_code.Statement.{statement}
 use Rattle.composite.proofs.writer.put_code.Tie as tie
 
-add-out : tie.Need-overflow-add-out
-add-out c = let s = c.before.before.before.before in record { fits = omega (arith, c.before.number.ensures, subtype-fits _ s.requires.0) }
+add-out : tie.Need-overflow_add-out
+add-out c = let s = c in record { fits = omega (arith, c.number.ensures, subtype-fits _ s.requires.0) }
 
-cast-out : tie.Need-overflow-cast-out
-cast-out c = let s = c.before.before.before.before in omega (arith, c.before.number.ensures, subtype-fits _ s.requires.0)
+cast-out : tie.Need-overflow_cast-out
+cast-out c = let s = c in omega (arith, c.number.ensures, subtype-fits _ s.requires.0)
 
-slice-write-out-2 : tie.Need-slice-write-out-2
+slice-write-out-2 : tie.Need-bounds-out-1
 slice-write-out-2 c = simp length-set (search rules)
 
-sub-put-bodies : tie.Need-overflow-sub-put-bodies
+sub-put-bodies : tie.Need-slice_bounds-put_bodies-count
 sub-put-bodies c = simp length-set (search rules)
 
-part-put-bodies-start : tie.Need-slice-bounds-put-bodies-start
+part-put-bodies-start : tie.Need-slice_bounds-put_bodies-start
 part-put-bodies-start c = simp length-set (search rules)
 
-put-bodies-requires : tie.Need-put-bodies-requires
+put-bodies-requires : tie.Need-put_bodies-requires
 put-bodies-requires c κs =
-    let b = c.before.before.before.before in
-    let s = b.before.before in
-    let k = count_most (set_of s.args.c.length_number) in
-    (omega (arith, s.requires.1, k), part_room (fronted _ s.requires.0 _ s.args.out.now) 2 (s.args.count * 8) (simp length-set s.requires.2), λ i h. ap (λ (x : List (List ℕ)). length (get_or x i [])) b.bodies_of.ensures ∙ s.requires.0.bodies i h)
+    let k = count_most (set_of c.args.c.length_number) in
+    (omega (arith, c.requires.1, k), part_room (fronted _ c.requires.0 _ c.args.out.now) 2 (c.args.count * 8) (simp length-set c.requires.2), λ i h. ap (λ (x : List (List ℕ)). length (get_or x i [])) c.bodies_of-bodies.ensures ∙ c.requires.0.bodies i h)
 
 -- the area once the bodies are put
-put : (p : tie.After-put-bodies) →
-    let n = p.before.before.before.before in
-    let s = n.before.before.before in
-    Put s.args.c s.requires.0 n.number.result s.args.out.now p.put-bodies.new.1.1.0
+put : (p : tie.After-put_bodies) →
+    Put p.args.c p.requires.0 p.number.result p.args.out.now p.put_bodies.new.out
 put p =
-    let n = p.before.before.before.before in
-    let s = n.before.before.before in
-    code_put s.args.c s.requires.0 _ _ _ s.args.out.now _ n.number.ensures s.requires.1 n.before.bodies_of.ensures s.requires.2 p.put-bodies.ensures
+    code_put p.args.c p.requires.0 _ _ _ p.args.out.now _ p.number.ensures p.requires.1 p.bodies_of-bodies.ensures p.requires.2 p.put_bodies.ensures
 
-same_length : tie.Need-same-length
+same_length : tie.Need-shape_of-out
 same_length c = (put c.before.before).1
 
 returns : tie.Need-returns

@@ -6,9 +6,7 @@ use Rattle.composite.proofs.writer.put_unit.Tie as tie
 
 returns : tie.Need-returns
 returns c =
-    let w = c.before.before in
-    let s = w.before.before.before.before.before in
-    unit-put s.args.main-type s.args.subtype _ s.args.t3 s.args.out.now _ s.args.offset w.before.before.before.unit-subtype.ensures s.requires.0 s.requires.1 (search rules) s.requires.2 w.write.ensures.1
+    unit-put c.args.main_type c.args.subtype _ c.args.body c.args.out.now _ c.args.offset c.unit_subtype-own.ensures c.requires.0 c.requires.1 (search rules) c.requires.2 c.write.ensures.1
 
 pub put_unit_spec : {M : Type 1} → statement M
 put_unit_spec =

@@ -18,10 +18,10 @@ pub record Counted (a b : List ℕ) (n d i : ℕ) : Type 0 where
   pub within : i ≤ n
   pub is : d ≡ differing_bits (take i a) (take i b)
 
-abbrev invariant-loop : tie.invariant-loop
+abbrev invariant-loop : tie.invariant-loop-i
 invariant-loop a b n d₀ i₀ d i = Counted a b n d i
 
-abbrev decreases-loop : tie.decreases-loop
+abbrev decreases-loop : tie.decreases-loop-i
 decreases-loop a b n d₀ i₀ d i = n - i
 
 start : (a b : List ℕ) (n : ℕ) → length a ≤ 40 → n ≡ min (length a) (length b) → Counted a b n 0 0
@@ -49,29 +49,29 @@ small a b n d i w =
 end : (a b : List ℕ) (n d i : ℕ) → Counted a b n d i → i ≡ n → (d ≡ differing_bits a b) × (d ≤ 320)
 end a b n d i w e = (w.is ∙ ap (λ (k : ℕ). differing_bits (take k a) (take k b)) (e ∙ w.shorter) ∙ differ-all a b, small a b n d i w)
 
-loop-holds : tie.Need-loop-init invariant-loop decreases-loop
+loop-holds : tie.Need-loop-i-init invariant-loop decreases-loop
 loop-holds c = search start
 
-add-d : tie.Need-overflow-add-d invariant-loop decreases-loop
-add-d c = omega (arith, small _ _ _ _ _ c.before.before.before.before.loop.invariant)
+add-d : tie.Need-overflow_add-d invariant-loop decreases-loop
+add-d c = omega (arith, small _ _ _ _ _ c.before.before.before.before.loop-i.invariant)
 
-loop-again : tie.Need-loop-preserved invariant-loop decreases-loop
-loop-again c = next _ _ _ _ _ _ _ c.before.before.before.before.loop.invariant (omega arith) (omega arith) c.of_parts.ensures.0
+loop-again : tie.Need-loop-i-preserved invariant-loop decreases-loop
+loop-again c = next _ _ _ _ _ _ _ c.before.before.before.before.loop-i.invariant (omega arith) (omega arith) c.of_parts-d.ensures.0
 
-cast-result : tie.Need-overflow-cast-result invariant-loop decreases-loop
-cast-result c = omega (arith, small _ _ _ _ _ c.before.before.loop.invariant)
+cast-result : tie.Need-overflow_cast-result invariant-loop decreases-loop
+cast-result c = omega (arith, small _ _ _ _ _ c.before.before.loop-i.invariant)
 
-returns : tie.Need-returns invariant-loop decreases-loop
-returns c = end _ _ _ _ _ c.before.before.loop.invariant (omega arith)
+returns : tie.Need-returns-then-i-n invariant-loop decreases-loop
+returns c = end _ _ _ _ _ c.before.before.loop-i.invariant (omega arith)
 
-add-result : tie.Need-overflow-add-result invariant-loop decreases-loop
-add-result c = omega (arith, small _ _ _ _ _ c.before.before.before.before.before.loop.invariant)
+add-result : tie.Need-overflow_add-result invariant-loop decreases-loop
+add-result c = omega (arith, small _ _ _ _ _ c.before.before.before.before.before.loop-i.invariant)
 
-cast-result-2 : tie.Need-overflow-cast-result-2 invariant-loop decreases-loop
-cast-result-2 c = omega (arith, small _ _ _ _ _ c.before.before.before.before.before.loop.invariant)
+cast-result-2 : tie.Need-overflow_cast-result-2 invariant-loop decreases-loop
+cast-result-2 c = omega (arith, small _ _ _ _ _ c.before.before.before.before.before.loop-i.invariant)
 
-returns-2 : tie.Need-returns-2 invariant-loop decreases-loop
-returns-2 c = end _ _ _ _ _ (next _ _ _ _ _ _ _ c.before.before.before.before.before.loop.invariant (omega arith) (omega arith) c.of-parts2.ensures.0) refl
+returns-2 : tie.Need-returns invariant-loop decreases-loop
+returns-2 c = end _ _ _ _ _ (next _ _ _ _ _ _ _ c.before.before.before.before.before.loop-i.invariant (omega arith) (omega arith) c.of_parts.ensures.0) refl
 
 pub differing_spec : {M : Type 1} → statement M
 differing_spec =

@@ -20,9 +20,9 @@ returns : tie.Need-returns
 returns c =
     let start = c.before.before in
     let a = start.before.before.args in (
-      counted a.x.now a.y.now _ _ (search rules) (below_all 256 a.x.now (λ k _. (start.before.shared-slice-known.given k).fits))
-          (below_all 256 a.y.now (λ k _. (start.shared-slice-known2.given k).fits)) c.before.number.ensures c.number2.ensures,
-      ones-most 64 _ _ c.before.number.type-inv c.number2.type-inv,
+      counted a.x.now a.y.now _ _ (search rules) (below_all 256 a.x.now (λ k _. (start.before.shared_slice_known-1.given k).fits))
+          (below_all 256 a.y.now (λ k _. (start.shared_slice_known-2-1.given k).fits)) c.before.number.ensures c.number-2.ensures,
+      ones-most 64 _ _ c.before.number.type_inv c.number-2.type_inv,
     )
 
 pub of_parts_spec : {M : Type 1} → statement M

@@ -5,22 +5,22 @@ use Rattle.distance.proofs.LowFirst.{LoadedFrom, loaded-none, loaded-one, loaded
 use Rattle.distance.proofs.bits.rest.Statement.{statement}
 use Rattle.distance.proofs.bits.rest.Tie as tie
 
-abbrev invariant-loop : tie.invariant-loop
+abbrev invariant-loop : tie.invariant-loop-i
 invariant-loop bytes number₀ i₀ number i = LoadedFrom bytes i number
 
-abbrev decreases-loop : tie.decreases-loop
+abbrev decreases-loop : tie.decreases-loop-i
 decreases-loop bytes number₀ i₀ number i = i
 
-loop-holds : tie.Need-loop-init invariant-loop decreases-loop
+loop-holds : tie.Need-loop-i-init invariant-loop decreases-loop
 loop-holds c = loaded-none _
 
-mul-number : tie.Need-overflow-mul-number invariant-loop decreases-loop
-mul-number c = omega (arith, loaded-small _ _ _ c.before.loop.invariant (search rules) (search rules))
+mul-number : tie.Need-overflow_mul-number invariant-loop decreases-loop
+mul-number c = omega (arith, loaded-small _ _ _ c.before.loop-i.invariant (search rules) (search rules))
 
-add-number : tie.Need-overflow-add-number invariant-loop decreases-loop
-add-number c = omega (arith, loaded-small _ _ _ c.before.before.before.loop.invariant (search rules) (search rules))
+add-number : tie.Need-overflow_add-number invariant-loop decreases-loop
+add-number c = omega (arith, loaded-small _ _ _ c.before.before.before.loop-i.invariant (search rules) (search rules))
 
-loop-again : tie.Need-loop-preserved invariant-loop decreases-loop
+loop-again : tie.Need-loop-i-preserved invariant-loop decreases-loop
 loop-again c = search loaded-one
 
 returns : tie.Need-returns invariant-loop decreases-loop

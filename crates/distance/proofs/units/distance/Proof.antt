@@ -7,13 +7,13 @@ use Rattle.distance.proofs.Laws.{first-refused, second-read, bounds, exact}
 use Rattle.distance.proofs.units.distance.Statement.{statement}
 use Rattle.distance.proofs.units.distance.Tie as tie
 
-returns : tie.Need-returns
+returns : tie.Need-returns-in-Refused
 returns c =
-    let start = c.before.before.before.before.before.before.before in
+    let start = c in
     let e : c.refused.result ≡ measured_as (distance start.args.a.now start.args.b.now) = search first-refused in
     (e, (bounds _ _ _ e, exact _ _ _ e))
 
-returns-2 : tie.Need-returns-2
+returns-2 : tie.Need-returns-in-Unit
 returns-2 c = (c.against.ensures, (bounds _ _ _ c.against.ensures, exact _ _ _ c.against.ensures))
 
 pub distance_spec : {M : Type 1} → statement M

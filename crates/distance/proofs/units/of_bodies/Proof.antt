@@ -15,7 +15,7 @@ unfolding measured_as distance_answer
 same-measure d n e m k p q r = rw (r, p, q)
 
 returns : tie.Need-returns
-returns c = same-measure _ _ _ _ _ c.before.before.differing.ensures.0 c.before.compared.ensures c.new.ensures
+returns c = same-measure _ _ _ _ _ c.before.before.differing-d.ensures.0 c.before.compared-n.ensures c.new.ensures
 
 pub of_bodies_spec : {M : Type 1} → statement M
 of_bodies_spec = tie.close (tie.spec (λ c κs. search rules) (λ c κs. search rules) (λ c κs. search rules) returns)

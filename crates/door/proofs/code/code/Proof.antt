@@ -1,30 +1,35 @@
 -- `door::code::code` meets its contract.
-use native.Mathlib.Omega.{arith}
-use Rattle.door.proofs.Codes.{code-short, code-refused, code_fits, code_is, code-written}
+use Prim.Native.Nat.{ℕ}
+use mathlib.Core.Path.{ap}
+use mathlib.Core.List.{List, ◌++◌}
+use lib.ListN.{drop}
+use Rattle.door.proofs.Codes.{code-short, code-refused, code_fits, code-room, code-taken, code-part, code-written}
 use borrow.Author.Rules.{rules}
 use Rattle.door.proofs.code.code.Statement.{statement}
 use Rattle.door.proofs.code.code.Tie as tie
 
-returns : tie.Need-returns
-returns c = code-short _ _ c.if1.true
+returns : tie.Need-returns-then-out-lt-LONGEST_CODE
+returns c = code-short _ _ c.if-out-lt-LONGEST_CODE.true
 
-part-copy-end : tie.Need-slice-bounds-copy-end
+prefix-end : tie.Need-slice_bounds-copy_from_slice-end
+prefix-end c = code-room _ _ _ c.read-found.ensures c.in-Accepted.is _ c.if-out-lt-LONGEST_CODE.false
+
+part-end : tie.Need-slice_bounds-copy_from_slice-end-in-Accepted
+part-end c = code-taken _ _ _ c.read-found.ensures c.in-Accepted.is _ c.if-out-lt-LONGEST_CODE.false
+
+part-copy-end : tie.Need-slice_bounds-copy_from_slice-end-in-Accepted-2
 part-copy-end c = search (rules, code_fits)
 
-copy-requires : tie.Need-copy-requires
-copy-requires c κs =
-    let r = c.before.before.before.before.before.before in
-    let l = (code_is _ _ _ r.read.ensures c.before.before.before.before.enum_told.given.1).1 in
-    omega (arith, l, r.before.if1.false)
+copy-requires : tie.Need-copy_from_slice-requires
+copy-requires c κs = (search rules, code-part _ _ _ c.read-found.ensures c.in-Accepted.is _ c.if-out-lt-LONGEST_CODE.false)
 
-returns-2 : tie.Need-returns-2
+returns-2 : tie.Need-returns-in-Accepted
 returns-2 c =
-    let r = c.before.before.before.before.before.before.before.before.before in
-    code-written _ _ _ r.read.ensures c.before.before.before.before.before.before.before.enum_told.given.1 _ _
-    r.before.if1.false c.before.before.copy.ensures.1
+    code-written _ _ _ c.read-found.ensures c.in-Accepted.is _ _
+    c.if-out-lt-LONGEST_CODE.false (ap (λ (x : List ℕ). x ++ drop c.read-found.result.code.length c.args.out.now) c.copy_from_slice.ensures.1)
 
-returns-3 : tie.Need-returns-3
-returns-3 c = let r = c.before.before.before in code-refused _ _ _ r.read.ensures _ _ _ r.before.if1.false c.before.answer.given.1
+returns-3 : tie.Need-returns-in-Refused
+returns-3 c = code-refused _ _ _ c.read-found.ensures _ _ _ c.if-out-lt-LONGEST_CODE.false c.in-Refused.is
 
 pub code_spec : {M : Type 1} → statement M
 code_spec =
@@ -33,6 +38,8 @@ code_spec =
     returns
     (λ c κs. search rules)
     (λ c. search rules)
+    prefix-end
+    part-end
     (λ c. search rules)
     (λ c. search rules)
     part-copy-end

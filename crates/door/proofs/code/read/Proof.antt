@@ -4,7 +4,7 @@ use borrow.Author.Rules.{rules}
 use Rattle.door.proofs.code.read.Statement.{statement}
 use Rattle.door.proofs.code.read.Tie as tie
 
-returns : tie.Need-returns
+returns : tie.Need-returns-then-text-gt-LONGEST_TYPED
 returns c = search code-long
 
 pub read_spec : {M : Type 1} → statement M

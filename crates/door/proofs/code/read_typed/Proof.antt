@@ -5,19 +5,17 @@ use borrow.Author.Rules.{rules}
 use Rattle.door.proofs.code.read_typed.Statement.{statement}
 use Rattle.door.proofs.code.read_typed.Tie as tie
 
-part-read-end : tie.Need-slice-bounds-read-end
+part-read-end : tie.Need-slice_bounds-read-end-in-Length
 part-read-end c =
-    let k = c.before.before.before.before.before in
-    let f = bytes_fit _ _ k.read.ensures.0 _ _ _ c.before.before.n.given.1 k.read.ensures.1 in
+    let f = bytes_fit _ _ c.read.ensures.0 _ _ _ c.in-Length.is c.read.ensures.1 in
     omega arith
 
-returns : tie.Need-returns
+returns : tie.Need-returns-in-Length
 returns c =
-    let k = c.before.before.before.before.before.before.before in
-    code-found _ _ k.read.ensures.0 _ _ _ c.before.before.before.before.n.given.1 k.read.ensures.1 _ c.read2.ensures
+    code-found _ _ c.read.ensures.0 _ _ _ c.in-Length.is c.read.ensures.1 _ c.read-in-Length.ensures
 
-returns-2 : tie.Need-returns-2
-returns-2 c = let k = c.before.before.before.before.before in none_found _ _ k.read.ensures.0 _ _ _ c.before.before.q.given.1 c.refused.ensures
+returns-2 : tie.Need-returns-in-Refused
+returns-2 c = none_found _ _ c.read.ensures.0 _ _ _ c.in-Refused.is c.refused.ensures
 
 pub read_typed_spec : {M : Type 1} → statement M
 read_typed_spec =

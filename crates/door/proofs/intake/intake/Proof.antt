@@ -5,17 +5,17 @@ use borrow.Author.Rules.{rules}
 use Rattle.door.proofs.intake.intake.Statement.{statement}
 use Rattle.door.proofs.intake.intake.Tie as tie
 
-returns : tie.Need-returns
-returns c = taken-short _ _ c.if1.true
+returns : tie.Need-returns-then-out-lt-LONGEST_WRITTEN
+returns c = taken-short _ _ c.if-out-lt-LONGEST_WRITTEN.true
 
-write-front-requires : tie.Need-write-front-requires
+write-front-requires : tie.Need-write_front-requires
 write-front-requires c κs = search (rules, code_fits)
 
-returns-2 : tie.Need-returns-2
+returns-2 : tie.Need-returns-in-Accepted
 returns-2 c = (search taken-answer, search taken-area)
 
-returns-3 : tie.Need-returns-3
-returns-3 c = let r = c.before.before.before in taken_refused _ _ _ r.read.ensures _ _ _ r.before.if1.false c.before.answer.given.1
+returns-3 : tie.Need-returns-in-Refused
+returns-3 c = taken_refused _ _ _ c.read-found.ensures _ _ _ c.if-out-lt-LONGEST_WRITTEN.false c.in-Refused.is
 
 pub intake_spec : {M : Type 1} → statement M
 intake_spec =

@@ -5,26 +5,22 @@ use borrow.Author.Rules.{rules}
 use Rattle.door.proofs.strict.strict.Statement.{statement}
 use Rattle.door.proofs.strict.strict.Tie as tie
 
-part-same-end : tie.Need-slice-bounds-same-end
+part-same-end : tie.Need-slice_bounds-same-end
 part-same-end c =
-    let k = c.before.before.before.before.before in
-    let f = own-fits _ _ _ (omega arith) k.intake.ensures.0 _ _ _ c.before.before.n.given.1 k.intake.ensures.1 in
+    let f = own-fits _ _ _ (omega arith) c.intake.ensures.0 _ _ _ c.in-Length.is c.intake.ensures.1 in
     omega arith
 
-returns : tie.Need-returns
+returns : tie.Need-returns-then-same
 returns c =
-    let k = c.before.before.before.before.before.before.before.before in
-    checked-same _ _ _ (omega arith) k.intake.ensures.0 _ _ _ c.before.before.before.before.before.n.given.1 k.intake.ensures.1 _ c.before.same.ensures c.if1.true
+    checked-same _ _ _ (omega arith) c.intake.ensures.0 _ _ _ c.in-Length.is c.intake.ensures.1 _ c.same.ensures c.if-same.true
 
-returns-2 : tie.Need-returns-2
+returns-2 : tie.Need-returns-else-same
 returns-2 c =
-    let k = c.before.before.before.before.before.before.before.before in
-    checked-other _ _ _ (omega arith) k.intake.ensures.0 _ _ _ c.before.before.before.before.before.n.given.1 k.intake.ensures.1 _ c.before.same.ensures c.if1.false
+    checked-other _ _ _ (omega arith) c.intake.ensures.0 _ _ _ c.in-Length.is c.intake.ensures.1 _ c.same.ensures c.if-same.false
 
-returns-3 : tie.Need-returns-3
+returns-3 : tie.Need-returns-in-Refused
 returns-3 c =
-    let k = c.before.before.before.before in
-    checked_refused _ _ _ (omega arith) k.intake.ensures.0 _ c.before.q.given.1
+    checked_refused _ _ _ (omega arith) c.intake.ensures.0 _ c.in-Refused.is
 
 pub strict_spec : {M : Type 1} → statement M
 strict_spec =

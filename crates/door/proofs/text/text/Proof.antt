@@ -6,20 +6,16 @@ use borrow.Author.Rules.{rules}
 use Rattle.door.proofs.text.text.Statement.{statement}
 use Rattle.door.proofs.text.text.Tie as tie
 
-returns : tie.Need-returns
-returns c = text-short _ _ c.if1.true
+returns : tie.Need-returns-then-out-lt-LONGEST_WRITTEN
+returns c = text-short _ _ c.if-out-lt-LONGEST_WRITTEN.true
 
-returns-2 : tie.Need-returns-2
+returns-2 : tie.Need-returns-in-Unit
 returns-2 c =
-    let r = c.before.before.before.before.before.before in
-    let w = c.before.before in
-    let b = r.before.before.before in
-    let s = b.before in
-    text-written s.args.code.now s.args.out.now r.before.if1.false _ r.read.ensures _ c.before.before.before.before.enum_told.given.1
-    (below_all 256 s.args.code.now (λ i h. omega (arith, b.shared-slice-known.given i))) _ _ (w.write.ensures.0, w.write.ensures.1)
+    text-written c.args.code.now c.args.out.now c.if-out-lt-LONGEST_WRITTEN.false _ c.read.ensures _ c.in-Unit.is
+    (below_all 256 c.args.code.now (λ i h. omega (arith, c.shared_slice_known-1.given i))) _ _ (c.write.ensures.0, c.write.ensures.1)
 
-returns-3 : tie.Need-returns-3
-returns-3 c = let r = c.before.before.before in text-refused _ _ r.before.if1.false _ r.read.ensures _ c.before.q.given.1
+returns-3 : tie.Need-returns-in-Refused
+returns-3 c = text-refused _ _ c.if-out-lt-LONGEST_WRITTEN.false _ c.read.ensures _ c.in-Refused.is
 
 pub text_spec : {M : Type 1} → statement M
 text_spec =

@@ -5,30 +5,24 @@ use borrow.Author.Rules.{rules}
 use Rattle.door.proofs.text.write.Statement.{statement}
 use Rattle.door.proofs.text.write.Tie as tie
 
-returns : tie.Need-returns
-returns c = no-scheme _ _ c.if1.true
+returns : tie.Need-returns-then-out-lt5
+returns c = no-scheme _ _ c.if-out-lt5.true
 
-add-t16 : tie.Need-overflow-add-t16
+add-t16 : tie.Need-overflow_add-result
 add-t16 c =
-    let w = c.before.before.before.before.before.before.before.before.before in
-    let s = w.before.before.before.before.before in
-    let m = text-within s.args.bytes.now s.args.out.now w.before.before.if1.false _ _
-    w.write.ensures.0 w.write.ensures.1 _ c.before.before.before.before.before.n.given.1 in
+    let m = text-within c.args.bytes.now c.args.out.now c.if-out-lt5.false _ _
+    c.write.ensures.0 c.write.ensures.1 _ c.in-Length.is in
     omega arith
 
-returns-2 : tie.Need-returns-2
+returns-2 : tie.Need-returns-in-Length
 returns-2 c =
-    let w = c.before.before.before.before.before.before.before.before.before in
-    let s = w.before.before.before.before.before in
-    text-put s.args.bytes.now s.args.out.now w.before.before.if1.false _ _
-    w.write.ensures.0 w.write.ensures.1 _ c.before.before.before.before.before.n.given.1 _ c.before.before.put-scheme.ensures
+    text-put c.args.bytes.now c.args.out.now c.if-out-lt5.false _ _
+    c.write.ensures.0 c.write.ensures.1 _ c.in-Length.is _ c.put_scheme.ensures
 
-returns-3 : tie.Need-returns-3
+returns-3 : tie.Need-returns-in-Refused
 returns-3 c =
-    let w = c.before.before.before.before.before in
-    let s = w.before.before.before.before.before in
-    text-not s.args.bytes.now s.args.out.now w.before.before.if1.false _ _
-    w.write.ensures.0 w.write.ensures.1 _ c.before.q.given.1
+    text-not c.args.bytes.now c.args.out.now c.if-out-lt5.false _ _
+    c.write.ensures.0 c.write.ensures.1 _ c.in-Refused.is
 
 pub write_spec : {M : Type 1} → statement M
 write_spec =

@@ -6,9 +6,8 @@ use Rattle.door.proofs.text.write_front.Tie as tie
 
 returns : tie.Need-returns
 returns c =
-    let w = c.before.before in
-    let a = w.before.before.before.before.before.args in
-    text-front a.code.now a.out.now _ a.count _ (w.write.ensures.0, w.write.ensures.1)
+    let a = c.args in
+    text-front a.code.now a.out.now _ a.count _ (c.write.ensures.0, c.write.ensures.1)
 
 pub write_front_spec : {M : Type 1} → statement M
 write_front_spec =

@@ -6,7 +6,7 @@ use Rattle.header.proofs.Read.{number-none, number-ones, number_cut, number-here
 use Rattle.header.proofs.reader.number_at.Statement.{statement}
 use Rattle.header.proofs.reader.number_at.Tie as tie
 
-sum_fits : tie.Need-overflow-add-t13
+sum_fits : tie.Need-overflow_add-result
 sum_fits c =
     let a = c.before.before in
     omega (arith, mod-lt a.value_at-v.result a.before.before.before.row_by-row.ensures.1.numbers)

@@ -19,7 +19,7 @@ returns-5 c =
     let first = second.before.before in
     bad-pad _ _ first.before.before.numbers_at_front-n.ensures first.if-n-eq0.false second.if-n-eq0-2.false third.if-n-eq0-3.false fourth.if-n-eq0-4.false c.before.padded.ensures c.if-not-padded.true
 
-sum-fits-2 : tie.Need-overflow-add-t10
+sum-fits-2 : tie.Need-overflow_add-result
 sum-fits-2 c =
     let fourth = c.before.before.before.before.before in
     let second = fourth.before.before.before.before in

@@ -5,14 +5,14 @@ use Rattle.header.proofs.Write.{append-is, append-lt, append-fits}
 use Rattle.header.proofs.writer.append.Statement.{statement}
 use Rattle.header.proofs.writer.append.Tie as tie
 
-product-fits : tie.Need-overflow-mul-t6
+product-fits : tie.Need-overflow_mul-result
 product-fits c =
     let a = c.before.before.before.before in
     let p = a.before.requires in
     let e = a.row_of-row.ensures in
     omega (arith, append-fits _ _ _ _ e.0 e.1 e.2 e.3 p.1 p.2)
 
-sum_fits : tie.Need-overflow-add-t8
+sum_fits : tie.Need-overflow_add-result
 sum_fits c =
     let a = c.before.before.before.before in
     let p = a.before.requires in

@@ -5,7 +5,7 @@ use Rattle.header.proofs.Write.{bytes-even, bytes-odd, fits-pad}
 use Rattle.header.proofs.writer.bytes_of.Statement.{statement}
 use Rattle.header.proofs.writer.bytes_of.Tie as tie
 
-product-fits : tie.Need-overflow-mul-t6
+product-fits : tie.Need-overflow_mul-result
 product-fits c =
     let n = c.before.before.before.nibbles_of-n in
     omega (arith, fits-pad n.result.count n.result.value (omega arith) n.ensures.1)

@@ -4,10 +4,10 @@ use borrow.Author.Rules.{rules}
 use Rattle.payload.proofs.reader.bad_offset.Statement.{statement}
 use Rattle.payload.proofs.reader.bad_offset.Tie as tie
 
-returns : tie.Need-returns
+returns : tie.Need-returns-then-bad-chars
 returns c = search bad-there
 
-returns-2 : tie.Need-returns-2
+returns-2 : tie.Need-returns
 returns-2 c = search bad-nowhere
 
 pub bad_offset_spec : {M : Type 1} → statement M

@@ -4,22 +4,20 @@ use borrow.Author.Rules.{rules}
 use Rattle.payload.proofs.reader.read_hyphened.Statement.{statement}
 use Rattle.payload.proofs.reader.read_hyphened.Tie as tie
 
-returns : tie.Need-returns
+returns : tie.Need-returns-then-front-gt-LONGEST_RUN
 returns c =
-    let p = c.before.before.before.before.requires in
-    front-over _ _ p.0 p.1 _ _ (record { within = p.2; none = p.3 }) c.if1.true
+    let p = c.requires in
+    front-over _ _ p.0 p.1 _ _ (record { within = p.2; none = p.3 }) c.if-front-gt-LONGEST_RUN.true
 
-returns-2 : tie.Need-returns-2
+returns-2 : tie.Need-returns-then-count-gt-LONGEST_RUN
 returns-2 c =
-    let w = c.before.before in
-    let p = w.before.before.before.before.before.before.requires in
-    hyphened-over _ _ p.0 p.1 _ _ _ w.without-hyphens.ensures c.if2.true
+    let p = c.requires in
+    hyphened-over _ _ p.0 p.1 _ _ _ c.without_hyphens-count.ensures c.if-count-gt-LONGEST_RUN.true
 
-read-run-requires : tie.Need-read-run-requires
+read-run-requires : tie.Need-read_run-requires
 read-run-requires c κs =
-    let w = c.before.before.before.before.before in
-    let p = w.before.before.before.before.before.before.requires in
-    (search rules, characters _ _ p.0 p.1 _ _ w.without-hyphens.ensures (search rules))
+    let p = c.requires in
+    (search rules, characters _ _ p.0 p.1 _ _ c.without_hyphens-count.ensures (search rules))
 
 pub read_hyphened_spec : {M : Type 1} → statement M
 read_hyphened_spec =

@@ -4,26 +4,20 @@ use borrow.Author.Rules.{rules}
 use Rattle.payload.proofs.reader.read_run.Statement.{statement}
 use Rattle.payload.proofs.reader.read_run.Tie as tie
 
-returns : tie.Need-returns
-returns c = let p = c.before.before.before.before.requires in run-empty _ _ p.0 p.1 _ c.if1.true
+returns : tie.Need-returns-then-chars-eq0
+returns c = let p = c.before.before.before.before.requires in run-empty _ _ p.0 p.1 _ c.if-chars-eq0.true
 
-returns-2 : tie.Need-returns-2
-returns-2 c = let p = c.before.before.before.before.before.requires in run-over _ _ p.0 p.1 _ c.if2.true
+returns-2 : tie.Need-returns-then-chars-gt-LONGEST_RUN
+returns-2 c = let p = c.before.before.before.before.before.requires in run-over _ _ p.0 p.1 _ c.if-chars-gt-LONGEST_RUN.true
 
-returns-3 : tie.Need-returns-3
+returns-3 : tie.Need-returns-in-Length
 returns-3 c =
-    let w = c.before.before.before.before.before in
-    let e = w.before.before in
-    let s = e.before.before.before.before.before in
-    run-accepted _ _ s.requires.0 s.requires.1 e.before.if1.false e.if2.false s.args.out.now _ _ w.read.ensures.0 w.read.ensures.1 _ c.before.n.given.1
+    run-accepted _ _ c.requires.0 c.requires.1 c.if-chars-eq0.false c.if-chars-gt-LONGEST_RUN.false c.args.out.now _ _ c.read.ensures.0 c.read.ensures.1 _ c.in-Length.is
 
-returns-4 : tie.Need-returns-4
+returns-4 : tie.Need-returns-in-Refused
 returns-4 c =
-    let w = c.before.before.before.before.before.before in
-    let e = w.before.before in
-    let s = e.before.before.before.before.before in
-    run-refused _ _ s.requires.0 s.requires.1 e.before.if1.false e.if2.false s.args.out.now _ _ w.read.ensures.0 w.read.ensures.1 _ _
-    c.before.before.q.given.1 c.bad-offset.ensures
+    run-refused _ _ c.requires.0 c.requires.1 c.if-chars-eq0.false c.if-chars-gt-LONGEST_RUN.false c.args.out.now _ _ c.read.ensures.0 c.read.ensures.1 _ _
+    c.in-Refused.is c.bad_offset.ensures
 
 pub read_run_spec : {M : Type 1} → statement M
 read_run_spec =

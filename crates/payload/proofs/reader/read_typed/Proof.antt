@@ -5,16 +5,16 @@ use borrow.Author.Rules.{rules}
 use Rattle.payload.proofs.reader.read_typed.Statement.{statement}
 use Rattle.payload.proofs.reader.read_typed.Tie as tie
 
-read-run-requires : tie.Need-read-run-requires
+read-run-requires : tie.Need-read_run-requires
 read-run-requires c κs =
     let f = c.before.before.before in
     let s = f.before.before in
-    (search rules, plain-cleaned _ _ s.typed-span.ensures.0 _ (record { within = f.plain-front.ensures.0; none = f.plain-front.ensures.1 }) c.before.before.if1.true s.typed-span.ensures.1 s.typed-span.ensures.2)
+    (search rules, plain-cleaned _ _ s.typed_span-s.ensures.0 _ (record { within = f.plain_front-front.ensures.0; none = f.plain_front-front.ensures.1 }) c.before.before.if-front-to.true s.typed_span-s.ensures.1 s.typed_span-s.ensures.2)
 
-read-hyphened-requires : tie.Need-read-hyphened-requires
+read-hyphened-requires : tie.Need-read_hyphened-requires
 read-hyphened-requires c κs =
     let f = c.before.before.before in
-    (search rules, cleaned-is _ _ f.before.before.typed-span.ensures.0, f.plain-front.ensures.0, f.plain-front.ensures.1)
+    (search rules, cleaned-is _ _ f.before.before.typed_span-s.ensures.0, f.plain_front-front.ensures.0, f.plain_front-front.ensures.1)
 
 pub read_typed_spec : {M : Type 1} → statement M
 read_typed_spec =

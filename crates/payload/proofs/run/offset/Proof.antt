@@ -5,7 +5,7 @@ use Rattle.payload.proofs.run.offset.Statement.{statement}
 use Rattle.payload.proofs.run.offset.Tie as tie
 
 returns : tie.Need-returns
-returns c = (offset-is _ _ _ _ c.before.before.typed-span.ensures.0 c.offset-in.ensures.0, search rules)
+returns c = (offset-is _ _ _ _ c.before.before.typed_span-s.ensures.0 c.offset_in.ensures.0, search rules)
 
 pub offset_spec : {M : Type 1} → statement M
 offset_spec =

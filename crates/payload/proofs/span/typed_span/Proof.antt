@@ -8,7 +8,7 @@ use Rattle.payload.proofs.span.typed_span.Tie as tie
 returns : tie.Need-returns
 returns c =
     let a = c.before.before.before.before in
-    let e = span-found _ _ _ _ _ _ refl refl a.blanks.ensures.0 c.before.before.trimmed-length.ensures.0 c.scheme-length.ensures.0 in
+    let e = span-found _ _ _ _ _ _ refl refl a.blanks-blanks.ensures.0 c.before.before.trimmed_length-end.ensures.0 c.scheme_length-front.ensures.0 in
     (cc, search rules, search rules)
 
 pub typed_span_spec : {M : Type 1} → statement M

@@ -4,7 +4,7 @@ use Rattle.places.proofs.Counting.{one-at-least, counted-less}
 use Rattle.places.proofs.counts.one_less.Statement.{statement}
 use Rattle.places.proofs.counts.one_less.Tie as tie
 
-sub-write-2 : tie.Need-overflow-sub-write-2
+sub-write-2 : tie.Need-overflow_sub-of_type
 sub-write-2 c = search one-at-least
 
 returns : tie.Need-returns

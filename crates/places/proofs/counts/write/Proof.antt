@@ -4,7 +4,7 @@ use Rattle.places.proofs.Counting.{second_fits, number-written}
 use Rattle.places.proofs.counts.write.Statement.{statement}
 use Rattle.places.proofs.counts.write.Tie as tie
 
-slice-write-counts-2 : tie.Need-slice-write-counts-2
+slice-write-counts-2 : tie.Need-bounds-counts-offset-2
 slice-write-counts-2 c = search second_fits
 
 returns : tie.Need-returns

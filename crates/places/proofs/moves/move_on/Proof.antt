@@ -5,29 +5,29 @@ use Rattle.places.proofs.Moved.{On, none-on, on-length, next-on, all-on}
 use Rattle.places.proofs.moves.move_on.Statement.{statement}
 use Rattle.places.proofs.moves.move_on.Tie as tie
 
-abbrev invariant-loop : tie.invariant-loop
+abbrev invariant-loop : tie.invariant-loop-i
 invariant-loop places₀ from to i₀ places i = On places₀ places from to i
 
-abbrev decreases-loop : tie.decreases-loop
+abbrev decreases-loop : tie.decreases-loop-i
 decreases-loop places₀ from to i₀ places i = i
 
-loop-holds : tie.Need-loop-init invariant-loop decreases-loop
+loop-holds : tie.Need-loop-i-init invariant-loop decreases-loop
 loop-holds c = none-on _ _ _ c.requires
 
-slice-read-places : tie.Need-slice-read-places invariant-loop decreases-loop
-slice-read-places c = omega (arith, on-length _ _ _ _ _ c.before.before.loop.invariant)
+slice-read-places : tie.Need-bounds-places-i invariant-loop decreases-loop
+slice-read-places c = omega (arith, on-length _ _ _ _ _ c.before.before.loop-i.invariant)
 
-slice-write-places : tie.Need-slice-write-places invariant-loop decreases-loop
-slice-write-places c = omega (arith, on-length _ _ _ _ _ c.before.before.loop.invariant)
+slice-write-places : tie.Need-bounds-places-i-in-loop-i invariant-loop decreases-loop
+slice-write-places c = omega (arith, on-length _ _ _ _ _ c.before.before.loop-i.invariant)
 
-loop-again : tie.Need-loop-preserved invariant-loop decreases-loop
-loop-again c = next-on _ _ _ _ _ c.before.before.loop.invariant c.before.loop-test.true
+loop-again : tie.Need-loop-i-preserved invariant-loop decreases-loop
+loop-again c = next-on _ _ _ _ _ c.before.before.loop-i.invariant c.before.loop-i-test.true
 
-same_length : tie.Need-same-length invariant-loop decreases-loop
-same_length c = on-length _ _ _ _ _ c.before.loop.invariant
+same_length : tie.Need-shape_of-places invariant-loop decreases-loop
+same_length c = on-length _ _ _ _ _ c.before.loop-i.invariant
 
 returns : tie.Need-returns invariant-loop decreases-loop
-returns c = all-on _ _ _ _ _ c.before.loop.invariant c.loop-test.false
+returns c = all-on _ _ _ _ _ c.before.loop-i.invariant c.loop-i-test.false
 
 pub move_on_spec : {M : Type 1} → statement M
 move_on_spec =

@@ -7,14 +7,14 @@ use Rattle.places.proofs.CountedPlaces.{all-counted, not-ordered}
 use Rattle.places.proofs.order.are_counted.Statement.{statement}
 use Rattle.places.proofs.order.are_counted.Tie as tie
 
-in-turn-requires : tie.Need-in-turn-requires
+in-turn-requires : tie.Need-in_turn-used-requires
 unfolding zeros
 in-turn-requires c κs = (search rules, sym no-counts)
 
-returns : tie.Need-returns
+returns : tie.Need-returns-then-all_zero
 returns c = search all-counted
 
-returns-2 : tie.Need-returns-2
+returns-2 : tie.Need-returns
 returns-2 c = search not-ordered
 
 pub are_counted_spec : {M : Type 1} → statement M

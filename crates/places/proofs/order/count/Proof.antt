@@ -5,10 +5,10 @@ use Rattle.places.proofs.CountedPlaces.{part-code, counted-by}
 use Rattle.places.proofs.order.count.Statement.{statement}
 use Rattle.places.proofs.order.count.Tie as tie
 
-part-main-type-end : tie.Need-slice-bounds-main-type-end
+part-main-type-end : tie.Need-slice_bounds-main_type-end
 part-main-type-end c = search code_fits
 
-main-type-requires : tie.Need-main-type-requires
+main-type-requires : tie.Need-main_type-main_type-requires
 main-type-requires c κs = search part-code
 
 returns : tie.Need-returns

@@ -8,7 +8,7 @@ use Rattle.places.proofs.place.borrower.Tie as tie
 returns : tie.Need-returns
 returns c =
     let start = c.before.before.before in
-    let places = below_all 256 start.args.places.now (λ k _. (c.before.before.shared-slice-known.given k).fits) in
+    let places = below_all 256 start.args.places.now (λ k _. (c.before.before.shared_slice_known-1.given k).fits) in
     search (borrower-read, places)
 
 pub borrower_spec : {M : Type 1} → statement M

@@ -4,16 +4,16 @@ use Rattle.places.proofs.PlaceTests.{used-none, used-long, used-bad, used-code}
 use Rattle.places.proofs.place.is_used.Statement.{statement}
 use Rattle.places.proofs.place.is_used.Tie as tie
 
-returns : tie.Need-returns
+returns : tie.Need-returns-then-n-eq0
 returns c = search used-none
 
-returns-2 : tie.Need-returns-2
+returns-2 : tie.Need-returns-then-n-gt-LONGEST_CODE
 returns-2 c = search used-long
 
-returns-3 : tie.Need-returns-3
+returns-3 : tie.Need-returns-then-is_code
 returns-3 c = search used-code
 
-returns-4 : tie.Need-returns-4
+returns-4 : tie.Need-returns
 returns-4 c = search used-bad
 
 pub is_used_spec : {M : Type 1} → statement M

@@ -4,10 +4,10 @@ use Rattle.probe.proofs.Laws.{no-type, no_write, by_number, area-by-number}
 use Rattle.probe.proofs.units.probe_unit_write.Statement.{statement}
 use Rattle.probe.proofs.units.probe_unit_write.Tie as tie
 
-returns : tie.Need-returns
+returns : tie.Need-returns-in-Refused
 returns c = (search no-type, search no_write)
 
-returns-2 : tie.Need-returns-2
+returns-2 : tie.Need-returns-in-MainType
 returns-2 c = (search by_number, search area-by-number)
 
 pub probe_unit_write_spec : {M : Type 1} → statement M

@@ -6,9 +6,9 @@ use Rattle.unit.proofs.Read.{item-type, known-below, item-length, item-bad, item
 use Rattle.unit.proofs.reader.item_of.Statement.{statement}
 use Rattle.unit.proofs.reader.item_of.Tie as tie
 
-sum_fits : tie.Need-overflow-add-used
+sum_fits : tie.Need-overflow_add-used
 sum_fits c =
-    let start = c.before.before.before.before.before.before.before.before.before in
+    let start = c in
     omega (arith, (raw-bounds _ _ start.requires).most)
 
 pub item_of_spec : {M : Type 1} → statement M

@@ -10,23 +10,23 @@ use Rattle.iscc.proofs.Area.{WrittenFront, nothing_written, length-written, all-
 use Rattle.unit.proofs.writer.copy.Statement.{statement}
 use Rattle.unit.proofs.writer.copy.Tie as tie
 
-abbrev invariant-loop : tie.invariant-loop
+abbrev invariant-loop : tie.invariant-loop-i
 invariant-loop from count to₀ i₀ to i = (i ≤ count) × WrittenFront (take i from) to₀ to i
 
-abbrev decreases-loop : tie.decreases-loop
+abbrev decreases-loop : tie.decreases-loop-i
 decreases-loop from count to₀ i₀ to i = count - i
 
-loop-holds : tie.Need-loop-init invariant-loop decreases-loop
+loop-holds : tie.Need-loop-i-init invariant-loop decreases-loop
 loop-holds c = (omega arith, nothing_written _)
 
-loop-again : tie.Need-loop-preserved invariant-loop decreases-loop
-loop-again c = (omega arith, copied_next _ _ _ _ (omega arith) (omega arith) c.before.before.loop.invariant.1)
+loop-again : tie.Need-loop-i-preserved invariant-loop decreases-loop
+loop-again c = (omega arith, copied_next _ _ _ _ (omega arith) (omega arith) c.before.before.loop-i.invariant.1)
 
 returns : tie.Need-returns invariant-loop decreases-loop
 returns c =
     let a = c.before.before.args in
-    let e : c.before.loop.i ≡ a.count = omega arith in
-    (all-written c.before.loop.invariant.1).1 ∙ ap (λ (n : ℕ). area_after (accept (take n a.from.now)) a.to.now) e
+    let e : c.before.loop-i.i ≡ a.count = omega arith in
+    (all-written c.before.loop-i.invariant.1).1 ∙ ap (λ (n : ℕ). area_after (accept (take n a.from.now)) a.to.now) e
 
 pub copy_spec : {M : Type 1} → statement M
 copy_spec =
@@ -36,9 +36,9 @@ copy_spec =
     decreases-loop
     loop-holds
     (λ c. search rules)
-    (λ c. omega (arith, length-written c.before.before.loop.invariant.1))
+    (λ c. omega (arith, length-written c.before.before.loop-i.invariant.1))
     (λ c. search rules)
     (λ c. search rules)
     loop-again
-    (λ c. length-written c.before.loop.invariant.1)
+    (λ c. length-written c.before.loop-i.invariant.1)
     returns)

@@ -7,46 +7,45 @@ use Rattle.units.proofs.Reached.{Running, starts, refuses, Turn, turn}
 use Rattle.units.proofs.reader.read.Statement.{statement}
 use Rattle.units.proofs.reader.read.Tie as tie
 
-abbrev invariant-loop : tie.invariant-loop
+abbrev invariant-loop : tie.invariant-loop-q
 invariant-loop bytes list₀ at₀ list at = Running bytes list at
 
-abbrev decreases-loop : tie.decreases-loop
+abbrev decreases-loop : tie.decreases-loop-q
 decreases-loop bytes list₀ at₀ list at = length bytes - at
 
-loop-holds : tie.Need-loop-init invariant-loop decreases-loop
-loop-holds c = starts _ _ c.empty.ensures
+loop-holds : tie.Need-loop-q-init invariant-loop decreases-loop
+loop-holds c = starts _ _ c.empty-list.ensures
 
-returns : tie.Need-returns invariant-loop decreases-loop
-returns c = refuses _ _ _ c.before.before.before.before.before.loop.invariant c.before.before.before.read.ensures.0 _ c.before.found.given.1
+returns : tie.Need-returns-in-Refused invariant-loop decreases-loop
+returns c = refuses _ _ _ c.loop-q.invariant c.read-found.ensures.0 _ c.in-Refused.is
 
 -- what a unit that was found says of this turn
-this : (c : tie.After-found2 invariant-loop decreases-loop)
-    → Turn c.before.before.before.before.before.before.before.args.bytes.now c.before.before.before.before.loop.list c.before.before.before.before.loop.at c.found2.given.0.0
-this c = turn _ _ _ c.before.before.before.before.loop.invariant c.before.before.read.ensures.0 _ c.found2.given.1
+this : (c : tie.In-Unit invariant-loop decreases-loop) → Turn c.args.bytes.now c.loop-q.list c.loop-q.at c.in-Unit.u
+this c = turn _ _ _ c.loop-q.invariant c.read-found.ensures.0 _ c.in-Unit.is
 
-long : (c : tie.After-found2 invariant-loop decreases-loop) → length c.before.before.before.before.before.before.before.args.bytes.now < 2 ^ 64
+long : (c : tie.In-Unit invariant-loop decreases-loop) → length c.args.bytes.now < 2 ^ 64
 long c = omega arith
 
-add-offset : tie.Need-overflow-add-offset invariant-loop decreases-loop
-add-offset c = let t = this c.before.before in record { fits = omega arith }
+add-offset : tie.Need-overflow_add-offset invariant-loop decreases-loop
+add-offset c = let t = this c.before in record { fits = omega arith }
 
-sub-add : tie.Need-overflow-sub-add invariant-loop decreases-loop
+sub-add : tie.Need-overflow_sub-u invariant-loop decreases-loop
 sub-add c = let t = this c.before.before.before in omega arith
 
-add-requires : tie.Need-add-requires invariant-loop decreases-loop
+add-requires : tie.Need-add-after-requires invariant-loop decreases-loop
 add-requires c κs = let t = this c.before.before.before in (omega arith, omega arith)
 
-add_at : tie.Need-overflow-add-at invariant-loop decreases-loop
+add_at : tie.Need-overflow_add-at invariant-loop decreases-loop
 add_at c = let t = this c.before.before.before.before.before in record { fits = omega (arith, long c.before.before.before.before.before) }
 
-returns-2 : tie.Need-returns-2 invariant-loop decreases-loop
-returns-2 c = (this c.before.before.before.before.before.before).ends _ c.before.before.add.ensures c.if1.true
+returns-2 : tie.Need-returns-then-bytes-at invariant-loop decreases-loop
+returns-2 c = (this c.before.before.before.before.before.before).ends _ c.before.before.add-after.ensures c.if-bytes-at.true
 
-loop-less : tie.Need-loop-smaller invariant-loop decreases-loop
+loop-less : tie.Need-loop-q-smaller invariant-loop decreases-loop
 loop-less c = let t = this c.before.before.before.before.before.before in omega arith
 
-loop-again : tie.Need-loop-preserved invariant-loop decreases-loop
-loop-again c = (this c.before.before.before.before.before.before).more _ c.before.before.add.ensures c.if1.false
+loop-again : tie.Need-loop-q-preserved invariant-loop decreases-loop
+loop-again c = (this c.before.before.before.before.before.before).more _ c.before.before.add-after.ensures c.if-bytes-at.false
 
 pub read_spec : {M : Type 1} → statement M
 read_spec =

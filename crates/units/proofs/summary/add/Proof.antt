@@ -6,12 +6,10 @@ use Rattle.units.proofs.summary.add.Tie as tie
 
 returns : tie.Need-returns
 returns c =
-    let b = c.before.before.before.before.before.before in
-    let a = b.before.before.before.before in
-    add_is a.args.list a.args.main-type.number a.args.subtype a.args.size a.args.offset _ _ _ _ _ _ _ _ _
-    b.before.before.before.number.ensures b.before.is-joinable.ensures b.advance.ensures c.before.before.before.before.before.advance2.ensures
-    c.before.before.before.before.advance3.ensures c.before.before.before.is_shared.ensures c.before.before.advance4.ensures
-    c.before.subtype-after.ensures c.with-offset.ensures
+    add_is c.args.list c.args.main_type.number c.args.subtype c.args.size c.args.offset _ _ _ _ _ _ _ _ _
+    c.number-number.ensures c.is_joinable.ensures c.advance.ensures c.advance-2.ensures
+    c.advance-3.ensures c.is_shared.ensures c.advance-4.ensures
+    c.subtype_after.ensures c.with_offset.ensures
 
 pub add_spec : {M : Type 1} → statement M
 add_spec =

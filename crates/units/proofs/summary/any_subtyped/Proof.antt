@@ -4,10 +4,10 @@ use borrow.Author.Rules.{rules}
 use Rattle.units.proofs.summary.any_subtyped.Statement.{statement}
 use Rattle.units.proofs.summary.any_subtyped.Tie as tie
 
-returns : tie.Need-returns
+returns : tie.Need-returns-then-offset_of-ne0
 returns c = search any-first
 
-returns-2 : tie.Need-returns-2
+returns-2 : tie.Need-returns
 returns-2 c = search any-second
 
 pub any_subtyped_spec : {M : Type 1} → statement M

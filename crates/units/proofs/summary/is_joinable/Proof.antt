@@ -4,10 +4,10 @@ use borrow.Author.Rules.{rules}
 use Rattle.units.proofs.summary.is_joinable.Statement.{statement}
 use Rattle.units.proofs.summary.is_joinable.Tie as tie
 
-returns : tie.Need-returns
+returns : tie.Need-returns-then-is
 returns c = search nor-first
 
-returns-2 : tie.Need-returns-2
+returns-2 : tie.Need-returns
 returns-2 c = search nor-second
 
 pub is_joinable_spec : {M : Type 1} → statement M

@@ -5,15 +5,15 @@ use borrow.Author.Rules.{rules}
 use Rattle.units.proofs.summary.is_shared.Statement.{statement}
 use Rattle.units.proofs.summary.is_shared.Tie as tie
 
-returns : tie.Need-returns
+returns : tie.Need-returns-then-any_subtyped
 unfolding shares
 returns c = search cond_both
 
-returns-2 : tie.Need-returns-2
+returns-2 : tie.Need-returns-else-any_subtyped
 unfolding shares
 returns-2 c = search cond-first
 
-returns-3 : tie.Need-returns-3
+returns-3 : tie.Need-returns-else-is_subtyped
 unfolding shares
 returns-3 c = search cond-none
 

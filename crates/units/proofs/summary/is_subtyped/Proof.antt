@@ -4,10 +4,10 @@ use borrow.Author.Rules.{rules}
 use Rattle.units.proofs.summary.is_subtyped.Statement.{statement}
 use Rattle.units.proofs.summary.is_subtyped.Tie as tie
 
-returns : tie.Need-returns
+returns : tie.Need-returns-then-is
 returns c = search or-first
 
-returns-2 : tie.Need-returns-2
+returns-2 : tie.Need-returns
 returns-2 c = search or-second
 
 pub is_subtyped_spec : {M : Type 1} → statement M

@@ -4,10 +4,10 @@ use borrow.Author.Rules.{rules}
 use Rattle.units.proofs.summary.with_offset.Statement.{statement}
 use Rattle.units.proofs.summary.with_offset.Tie as tie
 
-returns : tie.Need-returns
+returns : tie.Need-returns-then-after-number-eq0
 returns c = search first-offset
 
-returns-2 : tie.Need-returns-2
+returns-2 : tie.Need-returns-else-after-number-eq0
 returns-2 c = search later-offset
 
 pub with_offset_spec : {M : Type 1} → statement M

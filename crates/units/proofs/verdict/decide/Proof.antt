@@ -4,25 +4,25 @@ use Rattle.units.proofs.Decided.{refused-10, refused-11, refused-12, refused-dat
 use Rattle.units.proofs.verdict.decide.Statement.{statement}
 use Rattle.units.proofs.verdict.decide.Tie as tie
 
-returns : tie.Need-returns
+returns : tie.Need-returns-then-list-count
 returns c = search refused-10
 
-returns-2 : tie.Need-returns-2
+returns-2 : tie.Need-returns-then-list-count-2
 returns-2 c = search refused-11
 
-returns-3 : tie.Need-returns-3
+returns-3 : tie.Need-returns-then-list-count-3
 returns-3 c = search refused-12
 
-returns-4 : tie.Need-returns-4
+returns-4 : tie.Need-returns-then-offset_of-eq0
 returns-4 c = search refused-data
 
-returns-5 : tie.Need-returns-5
+returns-5 : tie.Need-returns-then-offset_of-eq0-2
 returns-5 c = search refused-instance
 
-returns-6 : tie.Need-returns-6
+returns-6 : tie.Need-returns-then-list-count-4
 returns-6 c = search refused-14
 
-returns-7 : tie.Need-returns-7
+returns-7 : tie.Need-returns
 returns-7 c = search makes_one
 
 pub decide_spec : {M : Type 1} → statement M
