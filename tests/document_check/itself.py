@@ -8,21 +8,21 @@ from .names import resolves
 from .pages import Document, anchors, column, commands, link_leads, links, other_links, placed, split_code, without_file
 
 KNOWN = [
-    "iscc/refusal_number", "header/*", "Demand1.countOver", "decode-encode", "accept", "HeaderTests", "Table.entry",
+    "iscc/refusal_number", "header/*", "Demand1.count_over", "decode-encode", "accept", "HeaderTests", "Table.entry",
     "base32::reader::read", "base32::reader::read(text, out)", "MainType::from_number", "code::write_list",
     "iscc/specs/Meaning.antt", "Doors.antt", "intake.tsv", "lines_NN.in", "tests/slips", "iscc_intake",
-    "ISCC_TEXT_AREA", "--help", "RT_JOBS=1 rt ci", "compare intake", "rt dev NAME", "55 00",
-    "r ≡ headerReadAs (readHeader bytes)", "iscc:maagztfqttvizpjr", "GAAW2PRCRS5LNVZV",
+    "ISCC_TEXT_AREA", "--help", "RT_JOBS=1 rt ci", "compare intake", "rt check NAME", "55 00",
+    "r ≡ header_read_as (read_header bytes)", "iscc:maagztfqttvizpjr", "GAAW2PRCRS5LNVZV",
     "./counter DIR ask TEXT", "./counter DIR", "./standby /srv/x promote LOG", "./standby --help", "tests/counter ask",
 ]
 UNKNOWN = [
-    "iscc/refusal_numbers", "nowhere/*", "iscc/*_nothing", "Demand1.countUnder", "Demand2.countOver", "decode-encoded",
+    "iscc/refusal_numbers", "nowhere/*", "iscc/*_nothing", "Demand1.count_under", "Demand2.count_over", "decode-encoded",
     "HeaderTest", "base32::reader::reads", "base32::reader::read(out, text)", "base32::reader::read(text)",
     "MainType::from_nothing", "header::reader::first_bad", "code::write_lists", "iscc/specs/Meanings.antt", "Door.antt",
     "outtake.tsv", "line_NN.in", "tests/slip", "iscc_outtake", "ISCC_TEXT_AREAS", "compare outtake", "rt develop NAME",
-    "rt dev nothing", "tests/run --sideways", "tests/run sideways", "r ≡ headerReadAs (readHeaders bytes)",
+    "rt check nothing", "tests/run --sideways", "tests/run sideways", "r ≡ header_read_as (read_headers bytes)",
     "r .sideways", "--sideways", "antt", "eader", "tests/intake full_disks", "tests/counter register_behind",
-    "./counter DIR lend TEXT", "./standby DIR", "./counter --words", "tests/run/", "Demand3.meant", "countOver",
+    "./counter DIR lend TEXT", "./standby DIR", "./counter --words", "tests/run/", "Demand3.meant", "count_over",
     "Table.set-back", "base32-back-again", "RT_JOBS=1 rt nothing", "nosuchlawname2", "nosuchlawname22222",
 ]
 # In any document, and nowhere in it.
@@ -36,7 +36,7 @@ SAID = [
 ]
 NO_LINKS = ["[a][b]", "[b]: page.md", '[a](page.md "title")', "[a](<page.md>)", "<a href=page.md>", "[a][]"]
 COMMANDS = [
-    "RT_JOBS=1 rt ci", "tests/run vectors  one part", "echo x | ./intake >out", "rt dev unit --allow-holes", "tests/vectors",
+    "RT_JOBS=1 rt ci", "tests/run vectors  one part", "echo x | ./intake >out", "rt check unit --allow-holes", "tests/vectors",
 ]
 NO_COMMANDS = [
     "rt develop unit", "tests/run sideways  one part", "echo x | ./outtake", "rt fmt --allow-holes", "tests/sideways",

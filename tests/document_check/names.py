@@ -13,7 +13,7 @@ OTHERS = set(
     ISCC: iscc: -ISCC: IS-CC: ISCC:ISCC: - # ; refused axioms= missing passed failed
     GAAW2PRCRS5LNVZ0 GAAW2PRC target/gate.log libiscc.a libiscc.so libiscc.so.0 iscc.pc
     requires ensures pub(crate) specs/ proofs/ src/ must-fail/ stdout stdin
-    r D DEFINITION now .entry .exit λ otherwise Refused(q) offset index place position detail
+    r D DEFINITION .now .old .new λ otherwise Refused(q) offset index place position detail
     RT_JOBS DESTDIR ISCC_LIBRARY LD_LIBRARY_PATH PKG_CONFIG_PATH PYTHONPATH str
     register.new register.old lending typed.txt --append --append-verify
     pread pwrite fdatasync fsync ftruncate rename
@@ -34,7 +34,7 @@ HALL_OPTIONS = ("--help", "--version")
 
 # They stand for anything in a path or a command.
 PLACEHOLDERS = set("NAME CRATE NN PART CALL CASE CASES TABLE LINE FILE PREFIX SEED LABEL REVISION N M ..".split())
-PLACEHOLDERS |= set("DIR TEXT BORROWER LOG".split())
+PLACEHOLDERS |= set("DIR TEXT BORROWER LOG PROGRAM".split())
 
 COMMANDS = {"rt", *OUTSIDE, *BUILT}
 BASES = ("", "crates/", "crates/iscc/specs/", "tests/vectors/", "examples/python/")
@@ -118,7 +118,10 @@ def is_word(word: str, folder: str, index: Index) -> bool:
         return any(name.endswith((word, f"::{word[1:]}")) for name in index.fields)
     if word in PLACEHOLDERS or SYMBOLS.fullmatch(word) or NUMBER.fullmatch(word):
         return True
-    return is_name(word, folder, index)
+    if is_name(word, folder, index):
+        return True
+    value, dot, field = word.partition(".")
+    return bool(dot) and is_word(value, folder, index) and is_word(f".{field}", folder, index)
 
 
 def argument_known(word: str, program: str, folder: str, index: Index) -> bool:
@@ -170,7 +173,8 @@ def resolves(text: str, folder: str, index: Index) -> bool:
         return is_call(text, index)
     words = text.split()
     if len(words) == 1:
-        return is_name(text, folder, index)
+        # `r.looks`: a field of an answer
+        return is_name(text, folder, index) or (text.startswith("r.") and is_word(text[1:], folder, index))
     while len(words) > 1 and is_setting(words[0]):
         del words[0]
     if words[0] in COMMANDS or "/" in words[0]:
