@@ -2,12 +2,13 @@
 from __future__ import annotations
 
 import re
+import subprocess
 from dataclasses import dataclass
 from pathlib import Path
 
 from .alone import IN_DOCUMENTS, IN_SOURCES, cited_titles, findings, passages, plain, quotations, section, sources
 from .index import Index, read
-from .names import BASES, is_edit, is_path, resolves
+from .names import BASES, is_edit, is_literal, is_path, resolves
 from .pages import (
     Document,
     bare_paths,
@@ -85,7 +86,7 @@ def check_names(document: Document, index: Index, tally: Tally) -> None:
         stands = any((base + file, name) in index.in_files for base in BASES)
         tally.check(stands, f"{document.path}:{number}: `{name}` does not stand in {file}")
     for number, path in bare_paths(document, index):
-        known = is_path(path, document.folder, index) or is_edit(path, index)
+        known = is_literal(path) or is_path(path, document.folder, index) or is_edit(path, index)
         tally.check(known, f"{document.path}:{number}: there is no {path}")
     for number, command in commands(document, index):
         known = resolves(command, document.folder, index)
@@ -237,10 +238,10 @@ FOR_PROGRAMS = range(15, 20)
 
 
 def check_readme(document: Document, tally: Tally) -> None:
-    """The toolchain is that of the gate whose times docs/BENCHMARKS.md has, and the clerk's tables have each number once."""
-    used = re.findall(r"cores, with (.+)\.$", read("docs/BENCHMARKS.md"), re.M)
+    """The toolchain is that of this machine, and the clerk's tables have each number once."""
+    used = [subprocess.run(["rt", "version"], capture_output=True, text=True, check=True).stdout.strip()]
     told = [line.strip() for _, line in document.code if line.strip().startswith("rattle-")]
-    tally.check(bool(used) and told == used, f"{document.path}: it names {told}, and docs/BENCHMARKS.md {used}")
+    tally.check(told == used, f"{document.path}: it names {told}, and rt version prints {used}")
     owed = [number for number in refusal_rows(section(read(SPECIFICATION), NUMBERS)) if number not in FOR_PROGRAMS]
     tally.check(len(owed) > 23, f"{SPECIFICATION}: its numbers of refusal were not found")
     rows = refusal_rows("\n".join(document.prose))

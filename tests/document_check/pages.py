@@ -65,7 +65,7 @@ def open_document(path: str) -> Document:
 
 # Notes of past landings stay as they landed: they speak of their own time, and names may be gone since. A landing adds the
 # note before its own.
-PAST = {f"docs/landings/{name}.md" for name in ("ground", "friendly", "a", "b", "c", "d", "e", "f", "g")}
+PAST = {f"docs/landings/{name}.md" for name in ("ground", "friendly", *"abcdefgh", "halls")}
 
 
 def documents(index: Index) -> list[str]:
