@@ -3,17 +3,15 @@ use Prim.Native.Nat.{ℕ, suc, ◌+◌, ◌*◌, ◌-◌, ◌≤◌, ◌<◌}
 use mathlib.Core.Path.{◌≡◌, refl, sym, ◌∙◌, ap}
 use mathlib.Core.Bool.{Bool, true, false, cond}
 use mathlib.Core.List.{List, [], ◌∷◌, ◌++◌, map, flatten, append-nil, append_assoc}
-use native.Mathlib.Numerals.{add-one}
 use native.Mathlib.Omega.{arith}
 use lib.ListN.{length, take, drop, length-append, length-drop}
 use lib.Seq.{append_snoc, take-length}
 use lib.Dec.{eqb, leb}
 use borrow.Author.Tests.{le-leb, leb-true, leb-false, eqb-true}
-use Rattle.iscc.specs.Refusals.{area_too_short}
 use Rattle.iscc.specs.Representation.{written_as}
 use Rattle.iscc.specs.declared.written.Written.{Written}
 use Rattle.iscc.specs.declared.written.Written.TheVariants.{Length}
-use Rattle.iscc.specs.Answer.{Answer, accept, refuse, ◌>>◌, ◌otherwise◌, area_after}
+use Rattle.iscc.specs.Answer.{Answer, accept, refuse, area_after}
 use Rattle.iscc.specs.Lines.{line_program}
 use Rattle.lines.specs.Feeding.{Feeding, answer_line, behind, nothing_fed, feeding, begun_line, held_for, line_for, shortened, room_for, fed_by, fed_as, last_answer, finishing}
 use Rattle.lines.specs.declared.feed.Fed.{Fed}

@@ -1,19 +1,19 @@
 -- How far `feed` gets in a piece, and what the bytes that it took leave and end.
 use Prim.Native.Nat.{ℕ, zero, suc, ◌+◌, ◌-◌, ◌≤◌, ◌<◌}
 use mathlib.Core.Path.{◌≡◌, refl, sym, ◌∙◌, ap, subst}
-use mathlib.Core.Logic.{◌↔◌, ◌⊎◌, inl, inr}
+use mathlib.Core.Logic.{inl, inr}
 use mathlib.Core.Bool.{Bool, true, false, cond, false≢true}
-use mathlib.Core.List.{List, [], ◌∷◌, ◌++◌, append-nil}
+use mathlib.Core.List.{List, [], ◌∷◌, ◌++◌}
 use native.Mathlib.Omega.{arith}
-use native.Mathlib.Nat.{not-suc-le-zero, le_of_suc-le-suc}
+use native.Mathlib.Nat.{not-suc-le-zero}
 use native.Mathlib.Decide.{dec_lt}
 use lib.ListN.{length, take, drop, length-append, length-drop}
 use lib.Seq.{take-add, take_all}
-use lib.Dec.{eqb, leb, ltb}
-use borrow.Author.Tests.{lt-ltb, le-ltb, le-leb, leb-true, leb-false}
+use lib.Dec.{eqb, leb}
+use borrow.Author.Tests.{lt-ltb, le-ltb, le-leb, leb-true}
 use Rattle.iscc.specs.Refusals.{area_too_short}
 use Rattle.iscc.specs.Answer.{accept}
-use Rattle.iscc.specs.Exactly.{BrokenAt, Exactly}
+use Rattle.iscc.specs.Exactly.{BrokenAt}
 use Rattle.iscc.proofs.Steps.{By, step-once, done}
 use Rattle.iscc.proofs.Exactly.{exactly}
 use Rattle.lines.specs.Feeding.{Feeding, answer_line, behind, nothing_fed, feeding, begun_line, held_for, line_for, shortened, Keeps, begun_next, answer_next, begun_after, answers_to, room_for, fed_by, fed_as, finishing}

@@ -12,7 +12,7 @@ returns c =
     let a = b.before.before.before in
     let s = a.before.before.before.before.before.before in
     same_answer _ _ _ _ _
-    (answer-copied s.args.line.now s.args.part.now _ _ _ s.args.held _ s.requires.1 s.requires.2 a.add.ensures.1 b.add2.ensures.0 b.add2.ensures.1)
+    (answer-copied s.args.line.now s.args.part.now _ _ _ s.args.held _ s.requires.1 s.requires.2 a.add.ensures.1 b.add-n.ensures.0 b.add-n.ensures.1)
     w.kept.ensures.0 w.kept.ensures.1
 
 pub copied_spec : {M : Type 1} → statement M

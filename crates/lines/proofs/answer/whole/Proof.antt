@@ -5,40 +5,29 @@ use Rattle.lines.proofs.Answers.{text-answered, refusal-answered, refused-answer
 use Rattle.lines.proofs.answer.whole.Statement.{statement}
 use Rattle.lines.proofs.answer.whole.Tie as tie
 
-slice-write-out : tie.Need-slice-write-out
+slice-write-out : tie.Need-bounds-out-n
 slice-write-out c =
-    let k = c.before.before.before.before.before in
-    let z = k.before.before.before.before in
-    (text-answered z.args.text.now z.args.out.now _ _ z.requires k.intake.ensures.0 k.intake.ensures.1 _ c.before.n.given.1).0
+    (text-answered c.args.text.now c.args.out.now _ _ c.requires c.intake.ensures.0 c.intake.ensures.1 _ c.in-Length.is).0
 
-add-result : tie.Need-overflow-add-result
+add-result : tie.Need-overflow_add-result
 add-result c =
-    let k = c.before.before.before.before.before in
-    let z = k.before.before.before.before in
-    let r = text-answered z.args.text.now z.args.out.now _ _ z.requires k.intake.ensures.0 k.intake.ensures.1 _ c.before.n.given.1 in
+    let r = text-answered c.args.text.now c.args.out.now _ _ c.requires c.intake.ensures.0 c.intake.ensures.1 _ c.in-Length.is in
     omega (arith, r.0)
 
 write-requires : tie.Need-write-requires
 write-requires c κs =
-    let k = c.before.before.before.before.before.before in
-    let z = k.before.before.before.before in
-    let r = refusal-answered z.args.text.now z.args.out.now _ _ z.requires k.intake.ensures.0 k.intake.ensures.1 _ c.before.before.q.given.1 in
-    (r.0, rw r.1 (omega (arith, z.requires)))
+    let r = refusal-answered c.args.text.now c.args.out.now _ _ c.requires c.intake.ensures.0 c.intake.ensures.1 _ c.in-Refused.is in
+    (r.0, rw r.1 (omega (arith, c.requires)))
 
-returns : tie.Need-returns
+returns : tie.Need-returns-in-Length
 returns c =
-    let k = c.before.before.before.before.before in
-    let z = k.before.before.before.before in
-    let r = text-answered z.args.text.now z.args.out.now _ _ z.requires k.intake.ensures.0 k.intake.ensures.1 _ c.before.n.given.1 in
+    let r = text-answered c.args.text.now c.args.out.now _ _ c.requires c.intake.ensures.0 c.intake.ensures.1 _ c.in-Length.is in
     (r.1, r.2)
 
-returns-2 : tie.Need-returns-2
+returns-2 : tie.Need-returns-in-Refused
 returns-2 c =
-    let w = c.before.before in
-    let k = w.before.before.before.before.before.before.before in
-    let z = k.before.before.before.before in
-    let r = refusal-answered z.args.text.now z.args.out.now _ _ z.requires k.intake.ensures.0 k.intake.ensures.1 _ w.before.before.before.q.given.1 in
-    refused-answer _ _ _ _ _ _ r.1 r.2 w.write.ensures.0 w.write.ensures.1
+    let r = refusal-answered c.args.text.now c.args.out.now _ _ c.requires c.intake.ensures.0 c.intake.ensures.1 _ c.in-Refused.is in
+    refused-answer _ _ _ _ _ _ r.1 r.2 c.write.ensures.0 c.write.ensures.1
 
 pub whole_spec : {M : Type 1} → statement M
 whole_spec =

@@ -9,6 +9,6 @@ count_spec =
     tie.close
     (tie.spec
     (λ c. search rules)
-    (λ c. count_long _ _ c.if1.true)
-    (λ c. count-all _ _ c.before.if1.false c.if2.true)
-    (λ c. count-some _ _ c.before.if1.false c.if2.false))
+    (λ c. count_long _ _ c.if-held-gt-LONGEST_LINE.true)
+    (λ c. count-all _ _ c.before.if-held-gt-LONGEST_LINE.false c.if-line-held.true)
+    (λ c. count-some _ _ c.before.if-held-gt-LONGEST_LINE.false c.if-line-held.false))

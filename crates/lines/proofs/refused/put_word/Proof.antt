@@ -8,22 +8,22 @@ use Rattle.iscc.proofs.Area.{WrittenFront, nothing_written, length-written, copi
 use Rattle.lines.proofs.refused.put_word.Statement.{statement}
 use Rattle.lines.proofs.refused.put_word.Tie as tie
 
-abbrev invariant-loop : tie.invariant-loop
+abbrev invariant-loop : tie.invariant-loop-i
 invariant-loop out₀ i₀ out i = (i ≤ 8) × (8 ≤ length out₀) × WrittenFront (take i refused_word) out₀ out i
 
-abbrev decreases-loop : tie.decreases-loop
+abbrev decreases-loop : tie.decreases-loop-i
 decreases-loop out₀ i₀ out i = 8 - i
 
-slice-write-out : tie.Need-slice-write-out invariant-loop decreases-loop
-slice-write-out c = omega (arith, length-written c.before.loop.invariant.2)
+slice-write-out : tie.Need-bounds-out-i invariant-loop decreases-loop
+slice-write-out c = omega (arith, length-written c.before.loop-i.invariant.2)
 
-loop-again : tie.Need-loop-preserved invariant-loop decreases-loop
+loop-again : tie.Need-loop-i-preserved invariant-loop decreases-loop
 unfolding refused_word
-loop-again c = (omega arith, omega arith, copied_next refused_word _ _ _ c.loop-test.true (omega arith) c.before.loop.invariant.2)
+loop-again c = (omega arith, omega arith, copied_next refused_word _ _ _ c.loop-i-test.true (omega arith) c.before.loop-i.invariant.2)
 
 returns : tie.Need-returns invariant-loop decreases-loop
 unfolding refused_word
-returns c = copied_all refused_word _ _ _ 8 (omega arith) (omega arith) c.before.loop.invariant.2
+returns c = copied_all refused_word _ _ _ 8 (omega arith) (omega arith) c.before.loop-i.invariant.2
 
 pub put_word_spec : {M : Type 1} → statement M
 put_word_spec =
@@ -37,5 +37,5 @@ put_word_spec =
     (λ c. search rules)
     (λ c. search rules)
     loop-again
-    (λ c. length-written c.before.loop.invariant.2)
+    (λ c. length-written c.before.loop-i.invariant.2)
     returns)

@@ -17,17 +17,17 @@ is-LF c e = rw (eq-eqb c 10 e)
 is-other : (c : ℕ) → (c ≡ 10 → ⊥) → not_lf c ≡ true
 is-other c e = rw (ne_eqb c 10 e)
 
-abbrev invariant-loop : tie.invariant-loop
+abbrev invariant-loop : tie.invariant-loop-i
 invariant-loop piece i₀ i = Passed not_lf piece i
 
-abbrev decreases-loop : tie.decreases-loop
+abbrev decreases-loop : tie.decreases-loop-i
 decreases-loop piece i₀ i = length piece - i
 
-returns : tie.Need-returns invariant-loop decreases-loop
-returns c = (omega arith, failed c.before.before.before.loop.invariant c.before.before.loop-test.true (is-LF _ c.if1.true))
+returns : tie.Need-returns-then-piece-i-eq-LF invariant-loop decreases-loop
+returns c = (omega arith, failed c.before.before.before.loop-i.invariant c.before.before.loop-i-test.true (is-LF _ c.if-piece-i-eq-LF.true))
 
-loop-again : tie.Need-loop-preserved invariant-loop decreases-loop
-loop-again c = passed-one c.before.before.before.loop.invariant c.before.before.loop-test.true (is-other _ c.if1.false)
+loop-again : tie.Need-loop-i-preserved invariant-loop decreases-loop
+loop-again c = passed-one c.before.before.before.loop-i.invariant c.before.before.loop-i-test.true (is-other _ c.if-piece-i-eq-LF.false)
 
 pub line_length_spec : {M : Type 1} → statement M
 line_length_spec =
@@ -41,4 +41,4 @@ line_length_spec =
     (λ c. omega arith)
     (λ c. omega arith)
     loop-again
-    (λ c. (c.before.loop.invariant.within, passed-all c.before.loop.invariant c.loop-test.false)))
+    (λ c. (c.before.loop-i.invariant.within, passed-all c.before.loop-i.invariant c.loop-i-test.false)))

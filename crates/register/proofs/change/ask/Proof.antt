@@ -5,25 +5,25 @@ use Rattle.register.proofs.Changes.{places-size, found-few, asked-none, asked-ye
 use Rattle.register.proofs.change.ask.Statement.{statement}
 use Rattle.register.proofs.change.ask.Tie as tie
 
-part-places-end : tie.Need-slice-bounds-places-end
+part-places-end : tie.Need-slice_bounds-places-end
 part-places-end c = search area-fits
 
-borrower-requires : tie.Need-borrower-requires
+borrower-requires : tie.Need-borrower-borrower-requires
 borrower-requires c κs =
     let found = c.before.before in
     let start = found.before.before.before in
-    (places-size start.args.area.now start.requires, found-few _ start.args.area.now start.requires _ found.find.ensures c.before.if1.true)
+    (places-size start.args.area.now start.requires, found-few _ start.args.area.now start.requires _ found.find-at.ensures c.before.if-at.true)
 
-returns : tie.Need-returns
+returns : tie.Need-returns-then-at
 returns c =
     let yes = c.before.before in
     let start = yes.before.before.before.before in
-    asked-yes _ start.args.area.now start.requires _ yes.before.find.ensures yes.if1.true _ c.borrower.ensures
+    asked-yes _ start.args.area.now start.requires _ yes.before.find-at.ensures yes.if-at.true _ c.borrower-borrower.ensures
 
-returns-2 : tie.Need-returns-2
+returns-2 : tie.Need-returns
 returns-2 c =
     let start = c.before.before.before.before in
-    asked-none _ start.args.area.now start.requires _ c.before.find.ensures c.if1.false
+    asked-none _ start.args.area.now start.requires _ c.before.find-at.ensures c.if-at.false
 
 pub ask_spec : {M : Type 1} → statement M
 ask_spec =

@@ -5,14 +5,14 @@ use Rattle.register.proofs.Changes.{search-known}
 use Rattle.register.proofs.change.find.Statement.{statement}
 use Rattle.register.proofs.change.find.Tie as tie
 
-part-search-end : tie.Need-slice-bounds-search-end
+part-search-end : tie.Need-slice_bounds-search-end
 part-search-end c = search area-fits
 
 search-requires : tie.Need-search-requires
 search-requires c κs =
     let counted = c.before in
     let start = counted.before.before.before in
-    search-known start.args.area.now _ start.requires counted.codes-out.ensures.0
+    search-known start.args.area.now _ start.requires counted.codes_out-used.ensures.0
 
 pub find_spec : {M : Type 1} → statement M
 find_spec =

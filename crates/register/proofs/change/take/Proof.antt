@@ -4,7 +4,7 @@ use Rattle.register.proofs.Areas.{some_left, type-left, take_done}
 use Rattle.register.proofs.change.take.Statement.{statement}
 use Rattle.register.proofs.change.take.Tie as tie
 
-one-less-requires : tie.Need-one-less-requires
+one-less-requires : tie.Need-one_less-requires
 one-less-requires c κs = (search rules, search rules, search some_left, search type-left)
 
 returns : tie.Need-returns

@@ -5,10 +5,10 @@ use Rattle.register.proofs.Areas.{register-length, register-is}
 use Rattle.register.proofs.check.is_register.Statement.{statement}
 use Rattle.register.proofs.check.is_register.Tie as tie
 
-returns : tie.Need-returns
-returns c = register-length _ (λ e. omega (arith, e, c.if1.true))
+returns : tie.Need-returns-then-area-ne-REGISTER_LENGTH
+returns c = register-length _ (λ e. omega (arith, e, c.if-area-ne-REGISTER_LENGTH.true))
 
-returns-2 : tie.Need-returns-2
+returns-2 : tie.Need-returns
 returns-2 c = search register-is
 
 pub is_register_spec : {M : Type 1} → statement M

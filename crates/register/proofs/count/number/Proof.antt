@@ -4,7 +4,7 @@ use Rattle.register.proofs.Areas.{front_fits, number-there}
 use Rattle.register.proofs.count.number.Statement.{statement}
 use Rattle.register.proofs.count.number.Tie as tie
 
-part-read-end : tie.Need-slice-bounds-read-end
+part-read-end : tie.Need-slice_bounds-read-end
 part-read-end c = search front_fits
 
 returns : tie.Need-returns
