@@ -41,7 +41,7 @@ rt: ok; handles allowed: none; must-fail edits: 2 refused; done in this run: 1 o
 """
 
 FILES = {
-    "crates.txt": "one:\ntwo: one\n",
+    "crates.txt": "one staticlib:\ntwo: one\n",
     "crates/one/src/lib.rt": "// A comment.\nfn a() {\n\n}\n",
     "crates/one/specs/A.antt": "-- A comment.\na : b\n",
     "crates/one/proofs/a/Proof.antt": "a\n  -- A comment.\nb\nc\n",

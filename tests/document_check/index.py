@@ -212,7 +212,7 @@ def parts_of_run() -> set[str]:
 
 def make_index() -> Index:
     index = Index(paths=all_paths())
-    index.crates = set(re.findall(r"^(\w+)\s*:", read("crates.txt"), re.M))
+    index.crates = set(re.findall(r"^(\w+)(?: staticlib)?\s*:", read("crates.txt"), re.M))
     for crate in sorted(index.crates):
         index_crate(crate, index)
     for path in sorted(index.paths):
