@@ -15,7 +15,6 @@ use Rattle.iscc.specs.Item.{Item, item_bytes, item_of}
 use Rattle.iscc.specs.Lists.{first_not}
 use Rattle.iscc.specs.Permitted.{unit_types}
 use Rattle.iscc.specs.Items.{set_in, bodies_in, subtype_of, read_items, joinable, composite_from, joined_meaning, joined_bytes}
-use Rattle.iscc.specs.declared.written.Written.TheVariants as written
 use Rattle.iscc.proofs.ItemTests.{some-items}
 use Rattle.iscc.proofs.Items.{items-read, CompositeParts, composite_from-parts, composite_from-permitted}
 use Rattle.iscc.proofs.Split.{joined-two}

@@ -5,8 +5,8 @@ use mathlib.Core.List.{List, [], ◌∷◌, ◌++◌, flatten, append_assoc, app
 use native.Mathlib.Nat.{le_of_suc-le-suc, not-suc-le-zero, add-suc, add-zero}
 use native.Mathlib.Numerals.{add-one}
 use native.Mathlib.Omega.{arith}
-use lib.ListN.{length, take, drop, get_or, set, replicate, length-append, length-take, length-drop, drop_of_length-le}
-use lib.Seq.{drop-cons, take_all, drop-drop, take_at, drop_at}
+use lib.ListN.{length, take, drop, get_or, set, replicate, length-append}
+use lib.Seq.{drop-cons, drop-drop, take_at, drop_at}
 use Rattle.composite.specs.Bodies.{filled_bodies, laid}
 
 -- ---- the elements of a part, written out

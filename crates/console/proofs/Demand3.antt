@@ -19,7 +19,7 @@ use Rattle.iscc.specs.Representation.{written_as, outcome_as}
 use Rattle.iscc.proofs.Answer.{accepted, value_of, accept-inj, passed}
 use Rattle.iscc.proofs.Numbers.{outcome-length, intake-numbered, strict-numbered}
 use Rattle.iscc.proofs.Demand3.{intake-of, intake-means, written_of, strict_of, strict-means}
-use Rattle.iscc.proofs.Doors.{meant, back, short, demand3}
+use Rattle.iscc.proofs.Doors.{meant, back, demand3}
 use Rattle.console.specs.Demand3.{ConsoleDemand3, answer_of, area_of, text_in, strict_number}
 use Rattle.console.proofs.Numbers.{of-table, told_of}
 

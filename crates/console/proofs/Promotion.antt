@@ -1,10 +1,10 @@
 -- What a promotion promises holds over what C is told.
 use Prim.Native.Nat.{ℕ}
-use mathlib.Core.Path.{◌≡◌, refl, sym, ◌∙◌, ap, subst}
-use mathlib.Core.Logic.{◌⊎◌, inl, inr, ◌↔◌}
-use mathlib.Core.List.{List, [], ◌++◌}
+use mathlib.Core.Path.{◌≡◌, refl, sym, ap, subst}
+use mathlib.Core.Logic.{inl, inr, ◌↔◌}
+use mathlib.Core.List.{List}
 use native.Mathlib.Omega.{arith}
-use lib.ListN.{length, take, replicate}
+use lib.ListN.{length, take}
 use lib.Seq.{take-append_seam}
 use Rattle.iscc.specs.Refusals.{Refusal}
 use Rattle.iscc.specs.Answer.{Answer, accept, refuse, number_of, Accepted}
@@ -13,15 +13,15 @@ use Rattle.iscc.specs.Lists.{zero_filled}
 use Rattle.iscc.proofs.Answer.{accept-inj}
 use Rattle.loans.specs.Contents.{issue_text, ask_text, looks_text}
 use Rattle.loans.specs.Replay.{torn}
-use Rattle.loans.specs.Promotion.{Verdict, granted, refused, refused_at, refused_for, from_empty, promotion, work_after}
+use Rattle.loans.specs.Promotion.{Verdict, granted, refused, refused_at, refused_for, from_empty, promotion}
 use Rattle.loans.specs.PromotionOrder.{verdict_answer}
-use Rattle.loans.specs.PromotionPromises.{May, LoansApart, LastAlone, Admitted, LastIsIssue, changes_in}
+use Rattle.loans.specs.PromotionPromises.{LoansApart, LastAlone, Admitted}
 use Rattle.loans.proofs.Promises.{loans-register}
 use Rattle.loans.proofs.PromotionPromises.{may-be-promoted}
 use Rattle.loans.proofs.Verdict.{Means, means}
 use Rattle.promotion.specs.Representation.{offset_told, code_told}
 use Rattle.console.specs.Representation.{change_answer_as, holder_answer_as}
-use Rattle.console.specs.Promotion.{told, code_in, ConsolePromotion}
+use Rattle.console.specs.Promotion.{told, ConsolePromotion}
 
 module _ (log replica work : List ℕ) where
   -- which verdict it is, by its number

@@ -7,8 +7,8 @@ use commands::command;
 use commands::command::Kind;
 use hall::standby;
 use loans::layout::REGISTER_LENGTH;
-use pending_log::replay::Replayed;
 use octets::compare::same;
+use pending_log::replay::Replayed;
 
 // One command, on a register that was read.
 fn serve_one(name: &[u8], line: &[u8], area: &mut [u8], writes: bool) -> u8 {

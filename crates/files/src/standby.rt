@@ -6,8 +6,8 @@ use crate::say::{DONE, FAILED, REFUSED};
 use crate::{log_file, register_file, say};
 use hall::{serving, standby};
 use loans::layout::REGISTER_LENGTH;
-use pending_log::replay::Replayed;
 use octets::compare::same;
+use pending_log::replay::Replayed;
 use promotion::answer::Verdict;
 use recovery::conclude::conclude;
 

@@ -1,7 +1,7 @@
 -- What the writer's steps say of `varnibble`, `header_bytes` and `write_header`.
 use Prim.Native.Nat.{ℕ, ◌+◌, ◌-◌, ◌*◌, ◌/◌, ◌%◌, ◌^◌, ◌≤◌, ◌<◌}
 use mathlib.Core.Path.{◌≡◌, refl, sym, ◌∙◌, ap}
-use mathlib.Core.Bool.{Bool, true, false, not, ◌&&◌}
+use mathlib.Core.Bool.{Bool, true, false, ◌&&◌}
 use mathlib.Core.List.{List, ◌++◌}
 use native.Mathlib.Omega.{arith}
 use native.Mathlib.Nat.{lt_of_lt_of_le, mul-add}
@@ -9,13 +9,12 @@ use lib.Arith.{digits_lt}
 use lib.Pow.{pow_mono, pow-add}
 use lib.Dec.{leb}
 use lib.ListN.{length}
-use borrow.Author.Tests.{leb-true, le-leb, lt-leb, not-true, not-false}
+use borrow.Author.Tests.{leb-true, le-leb, lt-leb}
 use Rattle.iscc.specs.Answer.{Answer, accept, refuse, ◌>>=◌, ◌>>◌, ◌otherwise◌, area_after}
 use Rattle.iscc.specs.Refusals.{Refusal, number_too_large, area_too_short}
 use Rattle.iscc.specs.Digits.{digits}
 use Rattle.iscc.specs.Varnibble.{row_of, varnibble, write_varnibble}
 use Rattle.iscc.specs.Header.{Writable, packed, header_bytes, raw_header, write_header}
-use Rattle.iscc.specs.Header as iscc
 use Rattle.iscc.specs.Representation.{written_as}
 use Rattle.iscc.specs.declared.written.Written.TheVariants.{Length, Refused}
 use Rattle.iscc.proofs.Booleans.{both_true}

@@ -1,6 +1,6 @@
 // Standard input to standard output by lines; tried on the specification's example.
 #![tactic(auto)]
 
-fn main() {
-    line_program::run();
+fn main(rt: HostRuntime) {
+    line_program::run(rt);
 }

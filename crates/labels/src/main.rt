@@ -6,15 +6,15 @@ mod distances;
 mod headers;
 mod say;
 mod texts;
-mod units;
+mod unit_reader;
 
-fn main() {
-    headers::numbers();
-    headers::labels();
-    texts::labels();
-    texts::short();
-    texts::published();
-    units::labels();
-    units::published();
-    distances::labels();
+fn main(rt: HostRuntime) {
+    headers::numbers(&rt);
+    headers::labels(&rt);
+    texts::labels(&rt);
+    texts::short(&rt);
+    texts::published(&rt);
+    unit_reader::labels(&rt);
+    unit_reader::published(&rt);
+    distances::labels(&rt);
 }

@@ -1,41 +1,49 @@
 // Printing.
 use iscc::refusal::Refusal;
-use libc::STDOUT_FILENO;
+use std::io::Write;
 
-pub fn text(t: &[u8]) {
-    io::write_all(STDOUT_FILENO, t);
+// That a write fails stops nothing: what is missing shows.
+pub fn text(rt: &HostRuntime, t: &[u8]) {
+    match rt.stdout().write_all(t) {
+        Ok(()) => {}
+        Err(_) => {}
+    }
 }
 
-pub fn number(n: u64) {
-    io::print_decimal(STDOUT_FILENO, n);
+pub fn number(rt: &HostRuntime, n: u64) {
+    match print!(rt; "{n}") {
+        Ok(()) => {}
+        Err(_) => {}
+    }
 }
 
 pub fn widen(n: u32) -> u64 {
     n as u64
 }
 
-pub fn refused(q: Refusal) {
-    text(b"refused ");
-    number(widen(q.number));
+pub fn refused(rt: &HostRuntime, q: Refusal) {
+    text(rt, b"refused ");
+    number(rt, widen(q.number));
 }
 
-pub fn spaced(n: u32) {
-    text(b" ");
-    number(widen(n));
+pub fn spaced(rt: &HostRuntime, n: u32) {
+    text(rt, b" ");
+    number(rt, widen(n));
 }
 
-pub fn byte(b: u8) {
-    io::print_hex(STDOUT_FILENO, b as u64, 2);
-}
-
-pub fn hex(bytes: &[u8]) {
-    let mut i = 0;
-    while i < bytes.len() {
-        byte(bytes[i]);
-        i += 1;
+pub fn byte(rt: &HostRuntime, b: u8) {
+    match print!(rt; "{b:02x}") {
+        Ok(()) => {}
+        Err(_) => {}
     }
 }
 
-pub fn end() {
-    text(b"\n");
+pub fn hex(rt: &HostRuntime, bytes: &[u8]) {
+    for b in bytes {
+        byte(rt, *b);
+    }
+}
+
+pub fn end(rt: &HostRuntime) {
+    text(rt, b"\n");
 }

@@ -2,11 +2,16 @@
 // told on standard error.
 #![tactic(auto)]
 
+mod say;
+
 ghost use Rattle.std.specs.Prelude.{◌≡◌, true, ◌≤◌, length};
 ghost use Rattle.lines.specs.Feeding.{begun_line, begun_after, Keeps};
 
 use iscc::written::Written;
-use libc::{STDERR_FILENO, STDIN_FILENO, STDOUT_FILENO};
+use std::io::Read;
+
+// The bytes that are read, and the bytes of answers that are written, at a time.
+const PIECE: usize = 65536;
 
 // The count of the line begun, and whether input may follow.
 #[derive(Clone, Copy)]
@@ -16,27 +21,29 @@ struct Next {
 }
 
 // Writes all of the answers, or tells that it cannot.
-fn put(answers: &[u8]) -> bool {
-    if io::write_all(STDOUT_FILENO, answers) {
-        return true;
+fn put(rt: &HostRuntime, answers: &[u8]) -> bool {
+    match say::put_all(&mut rt.stdout(), answers) {
+        Ok(()) => true,
+        Err(error) => {
+            say::fail(rt, b"intake: cannot write", error);
+            false
+        }
     }
-    os::fail(b"intake: cannot write");
-    false
 }
 
 // Answers the lines that end in a piece, and keeps what it has of the next.
-fn answer(line: &mut [u8], held: usize, piece: &[u8]) -> Next
+fn answer(rt: &HostRuntime, line: &mut [u8], held: usize, piece: &[u8]) -> Next
     requires { 1024 ≤ length line.old }
     ensures { result.more ≡ true → Keeps line.new result.held (begun_after (begun_line line.old held) piece.now) }
 {
-    let mut space = io::large_buffer();
+    let mut space = [0u8; PIECE];
     let out: &mut [u8] = &mut space;
     let mut kept = held;
     let mut at = 0;
     while at < piece.len() {
         let fed = lines::feed::feed(line, kept, &piece[at..], out);
         let n = fed.written;
-        if !put(&out[0..n]) {
+        if !put(rt, &out[0..n]) {
             return Next {
                 held: 0,
                 more: false,
@@ -52,72 +59,72 @@ fn answer(line: &mut [u8], held: usize, piece: &[u8]) -> Next
 }
 
 // Some editors put a byte order mark in front of a text. It is no character of a code, and nobody sees it: so it is told.
-fn tell_mark(piece: &[u8]) {
+fn tell_mark(rt: &HostRuntime, piece: &[u8]) {
     if piece.len() < 3 {
         return;
     }
     if octets::compare::same(&piece[0..3], b"\xef\xbb\xbf") {
-        io::write_all(
-            STDERR_FILENO,
+        say::put_error(
+            rt,
             b"intake: hint: the input begins with a byte order mark, which is no part of a code\n",
         );
     }
 }
 
 // Reads once and answers what came. A line that a failed read cuts is not answered.
-fn turn(line: &mut [u8], held: usize, first: bool) -> Next
+fn turn(rt: &HostRuntime, line: &mut [u8], held: usize, first: bool) -> Next
     requires { 1024 ≤ length line.old }
 {
-    let mut piece = io::large_buffer();
-    let got = libc::read(STDIN_FILENO, &mut piece);
-    if got < 0 {
-        os::fail(b"intake: cannot read");
-        return Next {
-            held: 0,
-            more: false,
-        };
+    let mut piece = [0u8; PIECE];
+    match rt.stdin().read(&mut piece) {
+        Ok(n) => {
+            if n == 0 {
+                return Next { held, more: false };
+            }
+            if first {
+                tell_mark(rt, &piece[..n]);
+            }
+            answer(rt, line, held, &piece[..n])
+        }
+        Err(error) => {
+            say::fail(rt, b"intake: cannot read", error);
+            Next {
+                held: 0,
+                more: false,
+            }
+        }
     }
-    if got == 0 {
-        return Next { held, more: false };
-    }
-    let n = io::count(got, &piece);
-    if first {
-        tell_mark(&piece[..n]);
-    }
-    answer(line, held, &piece[..n])
 }
 
-// Reads to the end of input. A proved loop has to end, so it counts its turns down from a number that no run uses up.
-fn answer_all(line: &mut [u8]) -> usize
+// Reads to the end of input. A proved loop has to end, so it has a number of turns that no run uses up.
+fn answer_all(rt: &HostRuntime, line: &mut [u8]) -> usize
     requires { 1024 ≤ length line.old }
 {
     let mut held = 0;
-    let mut turns = u64::MAX;
-    while turns > 0 {
-        let next = turn(line, held, turns == u64::MAX);
+    for i in 0..u64::MAX {
+        let next = turn(rt, line, held, i == 0);
         held = next.held;
         if !next.more {
             return held;
         }
-        turns -= 1;
     }
     held
 }
 
 // Answers a last line that no LF ends.
-fn answer_last(line: &[u8], held: usize, out: &mut [u8]) {
+fn answer_last(rt: &HostRuntime, line: &[u8], held: usize, out: &mut [u8]) {
     match lines::feed::finish(line, held, out) {
         Written::Length(n) => {
-            put(&out[0..n]);
+            put(rt, &out[0..n]);
         }
         Written::Refused(_) => {}
     }
 }
 
 // The whole program.
-pub fn run() {
+pub fn run(rt: HostRuntime) {
     let mut line = [0u8; 1024];
-    let held = answer_all(&mut line);
+    let held = answer_all(&rt, &mut line);
     let mut out = [0u8; 74];
-    answer_last(&line, held, &mut out);
+    answer_last(&rt, &line, held, &mut out);
 }

@@ -6,7 +6,7 @@ use Rattle.iscc.specs.WideComposites.{wide_bytes}
 use Rattle.loans.specs.Loan.{loan_of}
 use Rattle.loans.specs.Map.{issue_code, return_code}
 use Rattle.loans.specs.Place.{place_bytes, place_of, is_place}
-use Rattle.loans.specs.PendingLog.{NumberedChange, record_of, is_numbered}
+use Rattle.loans.specs.PendingLog.{record_of, is_numbered}
 
 -- a wide composite out to a borrower: its place and its records
 pub record WideLoan (code : List ℕ) (borrower : ℕ) : Type 0 where

@@ -33,14 +33,9 @@ Tells log position a r l = (r ≡ appended_as position a) × (l ≡ (written_aft
 -- ---- bytes at a position
 
 -- a copy into a log from an offset on, said of the whole
-pub put_written : (bs log e : List ℕ) (offset : ℕ) → offset + length bs ≤ length log
-    → e ≡ take (length bs) bs ++ drop (length bs) (take (length log - offset) (drop offset log))
-    → take offset log ++ (e ++ drop (length log - offset) (drop offset log)) ≡ pasted offset bs log
+pub put_written : (bs log e : List ℕ) (offset n : ℕ) → e ≡ bs → n ≡ length bs → take offset log ++ (e ++ drop n (drop offset log)) ≡ pasted offset bs log
 unfolding pasted
-put_written bs log e offset h p =
-    let none : drop (length log - offset) (drop offset log) ≡ [] =
-    drop_of_length-le (drop offset log) {i = length log - offset} (simp length-drop (omega arith)) in
-    rw (none, append-nil e, p, take-length bs, rest-is log offset, drop-drop (length bs) offset log)
+put_written bs log e offset n p q = rw (p, q, drop-drop (length bs) offset log)
 
 module _ (bs log : List ℕ) (position : ℕ) (h : position + length bs ≤ length log) where
   room : appended bs log position ≡ accept (record { log = pasted position bs log; position = position + length bs })

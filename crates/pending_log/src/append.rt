@@ -36,7 +36,9 @@ fn put(part: &[u8], log: &mut [u8], offset: usize) -> usize
     ensures offset { result ≡ offset + length part.now }
     ensures log { log.new ≡ pasted offset part.now log.old }
 {
-    offset + bytes::copy(part, &mut log[offset..])
+    let end = offset + part.len();
+    log[offset..end].copy_from_slice(part);
+    end
 }
 
 // A record at a position of a log, where there is room for it, in three parts: 15.

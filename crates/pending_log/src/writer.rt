@@ -1,5 +1,4 @@
-// The writer that holds a lent log and its position, thin over `append`. A function that takes or makes one is proved by a walk by
-// hand; whoever has an area and a number calls `append`.
+// The writer that holds a lent log and its position, thin over `append`; whoever has an area and a number calls `append`.
 ghost use Rattle.std.specs.Prelude.{◌≡◌};
 ghost use Rattle.iscc.specs.Answer.{number_of};
 ghost use Rattle.loans.specs.Map.{issue_code, return_code};

@@ -1,9 +1,10 @@
 -- The checker's answers: a code that is copied, or none.
-use Prim.Native.Nat.{ℕ}
+use Prim.Native.Nat.{ℕ, ◌-◌}
 use mathlib.Core.Path.{◌≡◌, refl, sym, ◌∙◌, ap, subst}
 use mathlib.Core.Bool.{true}
 use mathlib.Core.Option.{some}
 use mathlib.Core.List.{List, [], ◌++◌}
+use native.Mathlib.Omega.{arith}
 use lib.ListN.{length, take, drop, replicate}
 use lib.Seq.{take-length, take-append_seam}
 use Rattle.iscc.specs.Answer.{number_of}
@@ -19,10 +20,12 @@ use Rattle.promotion.specs.declared.difference.Difference.{Difference}
 use Rattle.promotion.specs.Representation.{difference_as, code_told, offset_told, promotion_as, promotion_number, promotion_offset, promotion_code}
 
 -- a code copied over zeros
-pub copied : (c held bytes : List ℕ) (n : ℕ) → c ≡ held → n ≡ length c → bytes ≡ take (length c) c ++ drop (length c) (replicate 42 0)
-    → ◌≡◌ {A = Difference} (record { found = true; code = record { bytes = bytes; length = n } }) (difference_as (some held))
-copied c held bytes n e l b =
-    let v = code-value c bytes n (b ∙ ap (λ (xs : List ℕ). xs ++ drop (length c) (replicate 42 0)) (take-length c)) l ∙ ap code_as e in
+pub copied : (c held front : List ℕ) → c ≡ held → front ≡ c
+    → ◌≡◌ {A = Difference} (record { found = true; code = record { bytes = front ++ drop (length c - 0) (replicate 42 0); length = length c } })
+    (difference_as (some held))
+copied c held front e f =
+    let k : length c - 0 ≡ length c = omega arith in
+    let v = code-value c (front ++ drop (length c - 0) (replicate 42 0)) (length c) (rw (f, k)) refl ∙ ap code_as e in
     ap (λ (x : Code). record { found = true; code = x }) v
 
 -- ---- number, offset and code are told by the answer

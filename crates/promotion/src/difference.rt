@@ -62,7 +62,8 @@ fn found(places: &[u8], i: usize) -> Difference
 {
     let code = place::code(places, i);
     let mut bytes = [0u8; LONGEST_CODE];
-    let length = bytes::copy(code, &mut bytes);
+    let length = code.len();
+    bytes[0..length].copy_from_slice(code);
     Difference {
         found: true,
         code: Code {

@@ -18,7 +18,6 @@ use Rattle.iscc.proofs.Permitted.{number_small}
 use Rattle.iscc.proofs.Parts.{rest-is}
 use Rattle.units.specs.declared.summary.Summary.{Summary}
 use Rattle.units.specs.declared.reader.Reading.{Reading}
-use Rattle.units.specs.declared.reader.Reading.TheVariants as Reading
 use Rattle.unit.specs.declared.reader.Unit.{Unit}
 use Rattle.unit.specs.declared.reader.UnitRead.{UnitRead}
 use Rattle.unit.specs.declared.reader.UnitRead.TheVariants as found

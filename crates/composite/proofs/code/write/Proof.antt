@@ -4,7 +4,6 @@ use mathlib.Core.Path.{◌≡◌, ◌∙◌, sym, ap}
 use mathlib.Core.List.{List, ◌++◌}
 use native.Mathlib.Omega.{arith}
 use lib.ListN.{length, drop}
-use lib.Seq.{take-length}
 use Rattle.iscc.specs.Answer.{accept}
 use Rattle.iscc.proofs.Answer.{never}
 use Rattle.iscc.proofs.Digits.{below_all}

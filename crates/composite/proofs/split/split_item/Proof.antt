@@ -1,7 +1,7 @@
 -- `split_item` meets its contract.
 use mathlib.Core.Path.{refl, ◌∙◌, sym}
 use native.Mathlib.Omega.{arith}
-use borrow.Author.Tests.{not-true, not-false, eqb-true}
+use borrow.Author.Tests.{eqb-true}
 use Rattle.iscc.proofs.Digits.{below_all}
 use Rattle.iscc.proofs.Filling.{refused, answers-same}
 use Rattle.unit.proofs.ExactlyOne.{one-is}

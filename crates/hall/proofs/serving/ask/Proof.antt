@@ -6,19 +6,13 @@ use Rattle.hall.proofs.Tellings.{ask-found, ask-refused}
 use Rattle.hall.proofs.serving.ask.Statement.{statement}
 use Rattle.hall.proofs.serving.ask.Tie as tie
 
-returns : tie.Need-returns
+returns : tie.Need-returns-in-Borrower
 returns c =
-    let asked = c.before.before.before.before in
-    let args = asked.before.before.before.args in
-    ask-found args.text.now args.area.now _ _ (ap (λ (x : Asked). x.holder) asked.ask.ensures.0) _
-    c.before.before.holder.given.1 c.found.ensures
+    ask-found c.args.text.now c.args.area.now _ _ (ap (λ (x : Asked). x.holder) c.ask-asked.ensures.0) _ c.in-Borrower.is c.found.ensures
 
-returns-2 : tie.Need-returns-2
+returns-2 : tie.Need-returns-in-Refused
 returns-2 c =
-    let asked = c.before.before.before.before in
-    let args = asked.before.before.before.args in
-    ask-refused args.text.now args.area.now _ _ (ap (λ (x : Asked). x.holder) asked.ask.ensures.0) _
-    c.before.before.holder2.given.1 c.refused.ensures
+    ask-refused c.args.text.now c.args.area.now _ _ (ap (λ (x : Asked). x.holder) c.ask-asked.ensures.0) _ c.in-Refused.is c.refused.ensures
 
 pub ask_spec : {M : Type 1} → statement M
 ask_spec =

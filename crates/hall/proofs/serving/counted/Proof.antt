@@ -10,6 +10,6 @@ counted_spec =
     (tie.spec
     (λ c κs. search rules)
     (λ c κs. search rules)
-    (λ c. sheet-counted _ _ c.before.before.is-register.ensures _ c.before.if1.true c.line.ensures)
+    (λ c. sheet-counted _ _ c.before.before.is_register.ensures _ c.before.if-is_register.true c.line.ensures)
     (λ c κs. search rules)
-    (λ c. sheet-refused _ _ c.before.before.is-register.ensures _ c.before.if1.false c.refused.ensures))
+    (λ c. sheet-refused _ _ c.before.before.is_register.ensures _ c.before.if-is_register.false c.refused.ensures))

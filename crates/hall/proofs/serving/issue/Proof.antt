@@ -8,24 +8,16 @@ use Rattle.hall.proofs.serving.issue.Tie as tie
 
 issued-requires : tie.Need-issued-requires
 issued-requires c κs =
-    let call = c.before.before.before.before.before.before in
-    let known = call.before.before in
-    let bytes = below_all 256 known.before.before.args.area.now (λ k _. (known.slice-known.given k).fits) in
-    issue-recordable _ bytes _ _ _ c.before.before.number.given.1 _ (omega arith) call.issue.ensures.0
+    let bytes = below_all 256 c.args.area.now (λ k _. (c.slice_known-1.given k).fits) in
+    issue-recordable _ bytes _ _ _ c.in-Done.is _ (omega arith) c.issue.ensures.0
 
-returns : tie.Need-returns
+returns : tie.Need-returns-in-Done
 returns c =
-    let call = c.before.before.before.before.before.before.before in
-    let args = call.before.before.before.before.args in
-    issue-done args.text.now args.area.now _ _ _ _ _ call.issue.ensures.0 call.issue.ensures.1.1.1 _ _
-    c.before.before.before.number.given.1 c.issued.ensures
+    issue-done c.args.text.now c.args.area.now _ _ _ _ _ c.issue.ensures.0 c.issue.ensures.1.1.1 _ _ c.in-Done.is c.issued.ensures
 
-returns-2 : tie.Need-returns-2
+returns-2 : tie.Need-returns-in-Refused
 returns-2 c =
-    let call = c.before.before.before.before.before.before in
-    let args = call.before.before.before.before.args in
-    issue-refused args.text.now args.area.now _ _ _ _ _ call.issue.ensures.0 call.issue.ensures.1.1.1 _
-    c.before.before.q.given.1 c.refused.ensures
+    issue-refused c.args.text.now c.args.area.now _ _ _ _ _ c.issue.ensures.0 c.issue.ensures.1.1.1 _ c.in-Refused.is c.refused.ensures
 
 pub issue_spec : {M : Type 1} → statement M
 issue_spec =

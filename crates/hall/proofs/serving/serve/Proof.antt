@@ -4,43 +4,28 @@ use Rattle.hall.proofs.CommandLines.{line-issue, line-return, line-ask, line-she
 use Rattle.hall.proofs.serving.serve.Statement.{statement}
 use Rattle.hall.proofs.serving.serve.Tie as tie
 
-returns : tie.Need-returns
+returns : tie.Need-returns-in-Issue
 returns c =
-    let read = c.before.before.before.before.before.before.before.before in
-    let args = read.before.before.before.args in
-    let told = read.read.ensures in
-    line-issue args.line.now args.area.now _ read.read.result told.0 _ told.1.0.0 told.1.1
-    c.before.before.before.before.before.before.enum_told.given.1 _ _ c.before.before.issue.ensures
+    let told = c.read-command.ensures in
+    line-issue c.args.line.now c.args.area.now _ c.read-command.result told.0 _ told.1.0.0 told.1.1 c.in-Issue.is _ _ c.issue.ensures
 
-returns-2 : tie.Need-returns-2
+returns-2 : tie.Need-returns-in-TakeBack
 returns-2 c =
-    let read = c.before.before.before.before.before.before.before.before in
-    let args = read.before.before.before.args in
-    let told = read.read.ensures in
-    line-return args.line.now args.area.now _ read.read.result told.0 _ told.1.0.0
-    c.before.before.before.before.before.before.enum-told2.given.1 _ _ c.before.before.take_back.ensures
+    let told = c.read-command.ensures in
+    line-return c.args.line.now c.args.area.now _ c.read-command.result told.0 _ told.1.0.0 c.in-TakeBack.is _ _ c.take_back.ensures
 
-returns-3 : tie.Need-returns-3
+returns-3 : tie.Need-returns-in-Ask
 returns-3 c =
-    let read = c.before.before.before.before.before in
-    let args = read.before.before.before.args in
-    let told = read.read.ensures in
-    line-ask args.line.now args.area.now _ read.read.result told.0 _ told.1.0.0
-    c.before.before.before.enum-told3.given.1 c.ask.ensures.0
+    let told = c.read-command.ensures in
+    line-ask c.args.line.now c.args.area.now _ c.read-command.result told.0 _ told.1.0.0 c.in-Ask.is c.ask.ensures.0
 
-returns-4 : tie.Need-returns-4
+returns-4 : tie.Need-returns-in-Sheet
 returns-4 c =
-    let read = c.before.before.before.before in
-    let args = read.before.before.before.args in
-    line-sheet args.line.now args.area.now _ read.read.result read.read.ensures.0 _
-    c.before.before.enum-told4.given.1 c.counted.ensures
+    line-sheet c.args.line.now c.args.area.now _ c.read-command.result c.read-command.ensures.0 _ c.in-Sheet.is c.counted.ensures
 
-returns-5 : tie.Need-returns-5
+returns-5 : tie.Need-returns-in-Faulty
 returns-5 c =
-    let read = c.before.before.before.before in
-    let args = read.before.before.before.args in
-    line-faulty args.line.now args.area.now _ read.read.result read.read.ensures.0 _ _
-    c.before.before.kind.given.1 c.faulty.ensures
+    line-faulty c.args.line.now c.args.area.now _ c.read-command.result c.read-command.ensures.0 _ _ c.in-Faulty.is c.faulty.ensures
 
 pub serve_spec : {M : Type 1} → statement M
 serve_spec =

@@ -7,24 +7,16 @@ use Rattle.hall.proofs.serving.take_back.Tie as tie
 
 returned-requires : tie.Need-returned-requires
 returned-requires c κs =
-    let call = c.before.before.before.before.before.before in
-    let known = call.before.before in
-    let bytes = below_all 256 known.before.before.args.area.now (λ k _. (known.slice-known.given k).fits) in
-    return-recordable _ bytes _ _ _ c.before.before.number.given.1 call.take_back.ensures.0
+    let bytes = below_all 256 c.args.area.now (λ k _. (c.slice_known-1.given k).fits) in
+    return-recordable _ bytes _ _ _ c.in-Done.is c.take_back.ensures.0
 
-returns : tie.Need-returns
+returns : tie.Need-returns-in-Done
 returns c =
-    let call = c.before.before.before.before.before.before.before in
-    let args = call.before.before.before.before.args in
-    return-done args.text.now args.area.now _ _ _ _ call.take_back.ensures.0 call.take_back.ensures.1.1.1 _ _
-    c.before.before.before.number.given.1 c.returned.ensures
+    return-done c.args.text.now c.args.area.now _ _ _ _ c.take_back.ensures.0 c.take_back.ensures.1.1.1 _ _ c.in-Done.is c.returned.ensures
 
-returns-2 : tie.Need-returns-2
+returns-2 : tie.Need-returns-in-Refused
 returns-2 c =
-    let call = c.before.before.before.before.before.before in
-    let args = call.before.before.before.before.args in
-    return_refused args.text.now args.area.now _ _ _ _ call.take_back.ensures.0 call.take_back.ensures.1.1.1 _
-    c.before.before.q.given.1 c.refused.ensures
+    return_refused c.args.text.now c.args.area.now _ _ _ _ c.take_back.ensures.0 c.take_back.ensures.1.1.1 _ c.in-Refused.is c.refused.ensures
 
 pub take_back_spec : {M : Type 1} → statement M
 take_back_spec =

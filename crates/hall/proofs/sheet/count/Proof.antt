@@ -5,14 +5,14 @@ use Rattle.hall.proofs.SheetLines.{count_yes, count_no}
 use Rattle.hall.proofs.sheet.count.Statement.{statement}
 use Rattle.hall.proofs.sheet.count.Tie as tie
 
-codes-out-requires : tie.Need-codes-out-requires
-codes-out-requires c κs = sym c.before.is-register.ensures ∙ c.if1.true
+codes-out-requires : tie.Need-codes_out-requires
+codes-out-requires c κs = sym c.before.is_register.ensures ∙ c.if-is_register.true
 
-returns : tie.Need-returns
-returns c = count_yes _ _ c.before.before.is-register.ensures c.before.if1.true _ c.codes-out.ensures.0
+returns : tie.Need-returns-then-is_register
+returns c = count_yes _ _ c.before.before.is_register.ensures c.before.if-is_register.true _ c.codes_out.ensures.0
 
-returns-2 : tie.Need-returns-2
-returns-2 c = count_no _ _ c.before.is-register.ensures c.if1.false
+returns-2 : tie.Need-returns
+returns-2 c = count_no _ _ c.before.is_register.ensures c.if-is_register.false
 
 pub count_spec : {M : Type 1} → statement M
 count_spec =

@@ -8,7 +8,7 @@ use Rattle.hall.proofs.sheet.counted.Tie as tie
 returns : tie.Need-returns
 returns c =
     let s = c.before.before.before in
-    let e = c.before.put-number.ensures.0 in
+    let e = c.before.put_number.ensures.0 in
     (put_two (text_in s.args.line) (in_decimal s.args.number) s.args.name.now e c.put.ensures.0, search rules)
 
 pub counted_spec : {M : Type 1} → statement M

@@ -7,7 +7,7 @@ use Rattle.hall.proofs.SheetLines.{loan-told}
 use Rattle.hall.proofs.sheet.loan.Statement.{statement}
 use Rattle.hall.proofs.sheet.loan.Tie as tie
 
-part-places-end : tie.Need-slice-bounds-places-end
+part-places-end : tie.Need-slice_bounds-places-end
 part-places-end c = search area-fits
 
 code-requires : tie.Need-code-requires

@@ -8,7 +8,7 @@ returns : tie.Need-returns
 returns c =
     let told = c.before.before in
     let written = told.before.before.before.before in
-    issue-told _ _ _ _ _ _ _ _ written.write.ensures told.append-record.ensures
+    issue-told _ _ _ _ _ _ _ _ written.write.ensures told.append_record.ensures
 
 pub issue_spec : {M : Type 1} → statement M
 issue_spec =

@@ -5,7 +5,7 @@ use Rattle.pending_log.proofs.append.take_back.Statement.{statement}
 use Rattle.pending_log.proofs.append.take_back.Tie as tie
 
 returns : tie.Need-returns
-returns c = return-told _ _ _ _ _ _ c.before.before.append-record.ensures
+returns c = return-told _ _ _ _ _ _ c.before.before.append_record.ensures
 
 pub take_back_spec : {M : Type 1} → statement M
 take_back_spec =

@@ -9,21 +9,21 @@ issue-requires : tie.Need-issue-requires
 issue-requires c κs =
     let tagged = c.before.before.before.before in
     let start = tagged.before.before.before in
-    (start.requires.1, issue-code _ start.args.body.now start.requires.0 tagged.if1.true)
+    (start.requires.1, issue-code _ start.args.body.now start.requires.0 tagged.if-tag-eq-ISSUE_TAG.true)
 
-returns : tie.Need-returns
+returns : tie.Need-returns-then-tag-eq-ISSUE_TAG
 returns c =
     let issued = c.before.before in
     let read = issued.before.before.before in
     let tagged = read.before.before in
     let known = tagged.before.before in
-    let body = below_all 256 known.before.args.body.now (λ k _. (known.shared-slice-known.given k).fits) in
-    issue-made _ _ _ _ _ tagged.if1.true _ (read_is known.before.args.body.now 4 _ body read.read.ensures) issued.issue.ensures
+    let body = below_all 256 known.before.args.body.now (λ k _. (known.shared_slice_known-1.given k).fits) in
+    issue-made _ _ _ _ _ tagged.if-tag-eq-ISSUE_TAG.true _ (read_is known.before.args.body.now 4 _ body read.read-borrower.ensures) issued.issue.ensures
 
-returns-2 : tie.Need-returns-2
+returns-2 : tie.Need-returns
 returns-2 c =
     let returned = c.before.before in
-    return-made _ _ _ _ _ returned.before.before.before.if1.false returned.take_back.ensures
+    return-made _ _ _ _ _ returned.before.before.before.if-tag-eq-ISSUE_TAG.false returned.take_back.ensures
 
 pub make_spec : {M : Type 1} → statement M
 make_spec =

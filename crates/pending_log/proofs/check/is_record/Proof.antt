@@ -5,14 +5,14 @@ use Rattle.pending_log.proofs.Applied.{issue-is, is-return, is-other}
 use Rattle.pending_log.proofs.check.is_record.Statement.{statement}
 use Rattle.pending_log.proofs.check.is_record.Tie as tie
 
-returns : tie.Need-returns
-returns c = c.is_IsBody.ensures ∙ issue-is _ _ c.before.if1.true
+returns : tie.Need-returns-then-tag-eq-ISSUE_TAG
+returns c = c.is_body.ensures ∙ issue-is _ _ c.before.if-tag-eq-ISSUE_TAG.true
 
-returns-2 : tie.Need-returns-2
-returns-2 c = c.is-body2.ensures ∙ is-return _ _ c.before.before.if1.false c.before.if2.true
+returns-2 : tie.Need-returns-then-tag-eq-RETURN_TAG
+returns-2 c = c.is_body-then-tag-eq-RETURN_TAG.ensures ∙ is-return _ _ c.before.before.if-tag-eq-ISSUE_TAG.false c.before.if-tag-eq-RETURN_TAG.true
 
-returns-3 : tie.Need-returns-3
-returns-3 c = is-other _ _ c.before.if1.false c.if2.false
+returns-3 : tie.Need-returns
+returns-3 c = is-other _ _ c.before.if-tag-eq-ISSUE_TAG.false c.if-tag-eq-RETURN_TAG.false
 
 pub is_record_spec : {M : Type 1} → statement M
 is_record_spec =

@@ -6,17 +6,13 @@ use Rattle.pending_log.proofs.replay.replay.Statement.{statement}
 use Rattle.pending_log.proofs.replay.replay.Tie as tie
 
 run-requires : tie.Need-run-requires
-run-requires c κs = sym c.before.before.is-register.ensures ∙ c.before.if1.true
+run-requires c κs = sym c.is_register.ensures ∙ c.if-is_register.true
 
-returns : tie.Need-returns
-returns c =
-    let start = c.before.before.before.before.before.before.before.before.before in
-    all_told-is start.args.log.now start.args.area.now _ _ c.before.before.run.ensures
+returns : tie.Need-returns-then-is_register
+returns c = all_told-is c.args.log.now c.args.area.now _ _ c.run.ensures
 
-returns-2 : tie.Need-returns-2
-returns-2 c =
-    let start = c.before.before.before.before.before in
-    all_told-is start.args.log.now start.args.area.now _ _ (not_register-is _ _ _ c.before.is-register.ensures c.if1.false)
+returns-2 : tie.Need-returns
+returns-2 c = all_told-is c.args.log.now c.args.area.now _ _ (not_register-is _ _ _ c.is_register.ensures c.if-is_register.false)
 
 pub replay_spec : {M : Type 1} → statement M
 replay_spec =

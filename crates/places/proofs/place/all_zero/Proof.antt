@@ -19,8 +19,8 @@ loop-holds c = zeros-none _
 loop-again : tie.Need-loop-i-preserved invariant-loop decreases-loop
 loop-again c =
     elim c.if-most-byte.branch [
-      then-most-byte w ↦ rw w.most-is (zeros-new c.loop-i.invariant (search rules) w.if-most-byte.true)
-    | else-most-byte w ↦ rw w.most-is (zeros-kept c.loop-i.invariant (search rules) w.if-most-byte.false)
+      | then-most-byte w ↦ rw w.most-is (zeros-new c.loop-i.invariant (search rules) w.if-most-byte.true)
+      | else-most-byte w ↦ rw w.most-is (zeros-kept c.loop-i.invariant (search rules) w.if-most-byte.false)
     ]
 
 returns : tie.Need-returns invariant-loop decreases-loop

@@ -8,10 +8,10 @@ use Rattle.promotion.proofs.Cleared.{Cleared, none-cleared, next-cleared, all-cl
 use Rattle.promotion.proofs.check.clear.Statement.{statement}
 use Rattle.promotion.proofs.check.clear.Tie as tie
 
-abbrev invariant-loop : tie.invariant-loop
+abbrev invariant-loop : tie.invariant-loop-i
 invariant-loop area₀ i₀ area i = Cleared area₀ area i
 
-abbrev decreases-loop : tie.decreases-loop
+abbrev decreases-loop : tie.decreases-loop-i
 decreases-loop area₀ i₀ area i = length area₀ - i
 
 pub clear_spec : {M : Type 1} → statement M
@@ -23,7 +23,7 @@ clear_spec =
     (λ c. none-cleared _)
     (λ c. search rules)
     (λ c. search rules)
-    (λ c. let l = length-written c.before.loop.invariant in search (rules, l))
-    (λ c. let l = length-written c.before.loop.invariant in search (next-cleared, rules, l))
-    (λ c. length-written c.before.loop.invariant)
+    (λ c. let l = length-written c.before.loop-i.invariant in search (rules, l))
+    (λ c. let l = length-written c.before.loop-i.invariant in search (next-cleared, rules, l))
+    (λ c. length-written c.before.loop-i.invariant)
     (λ c. search all-cleared))

@@ -8,49 +8,27 @@ use Rattle.promotion.proofs.check.replay_and_compare.Tie as tie
 
 compare-requires : tie.Need-compare-requires
 compare-requires c κs =
-    let ran = c.before.before.before.before.before in
-    let cleared = ran.before.before.before.before in
-    let known = cleared.before.before.before.before in
-    let start = known.before in
-    let log = below_all 256 start.args.log.now (λ k _. (known.shared-slice-known.given k).fits) in
-    (made-valid start.args.log.now start.args.area.now _ start.requires.1 cleared.clear.ensures _ _ ran.run.ensures log, start.requires.0)
+    let log = below_all 256 c.args.log.now (λ k _. (c.shared_slice_known-1.given k).fits) in
+    (made-valid c.args.log.now c.args.area.now _ c.requires.1 c.clear.ensures _ _ c.run-end.ensures log, c.requires.0)
 
-returns : tie.Need-returns
+returns : tie.Need-returns-in-Ended
 returns c =
-    let ended = c.before.before in
-    let ran = ended.before.before.before.before in
-    let cleared = ran.before.before.before.before in
-    let known = cleared.before.before.before.before in
-    let start = known.before in
-    let log = below_all 256 start.args.log.now (λ k _. (known.shared-slice-known.given k).fits) in
-    ran-to-end start.args.log.now start.args.area.now _ start.requires.1 cleared.clear.ensures _ _ ran.run.ensures log
-    (contents_of start.args.replica.now) ended.enum_told.given.1 _ c.compare.ensures
+    let log = below_all 256 c.args.log.now (λ k _. (c.shared_slice_known-1.given k).fits) in
+    ran-to-end c.args.log.now c.args.area.now _ c.requires.1 c.clear.ensures _ _ c.run-end.ensures log
+    (contents_of c.args.replica.now) c.in-Ended.is _ c.compare.ensures
 
-returns-2 : tie.Need-returns-2
+returns-2 : tie.Need-returns-in-Torn
 returns-2 c =
-    let torn = c.before.before in
-    let ran = torn.before.before.before.before in
-    let cleared = ran.before.before.before.before in
-    let start = cleared.before.before.before.before.before in
-    torn-told start.args.log.now start.args.area.now _ start.requires.1 cleared.clear.ensures _ _ ran.run.ensures
-    (contents_of start.args.replica.now) _ _ c.refuse-at.ensures torn.end.given.1
+    torn-told c.args.log.now c.args.area.now _ c.requires.1 c.clear.ensures _ _ c.run-end.ensures
+    (contents_of c.args.replica.now) _ _ c.refuse_at.ensures c.in-Torn.is
 
-returns-3 : tie.Need-returns-3
+returns-3 : tie.Need-returns-in-Stopped
 returns-3 c =
-    let stopped = c.before.before in
-    let ran = stopped.before.before.before.before in
-    let cleared = ran.before.before.before.before in
-    let start = cleared.before.before.before.before.before in
-    stopped-told start.args.log.now start.args.area.now _ start.requires.1 cleared.clear.ensures _ _ ran.run.ensures
-    (contents_of start.args.replica.now) _ _ _ c.refuse-at2.ensures stopped.end2.given.1
+    stopped-told c.args.log.now c.args.area.now _ c.requires.1 c.clear.ensures _ _ c.run-end.ensures
+    (contents_of c.args.replica.now) _ _ _ c.refuse_at-in-Stopped.ensures c.in-Stopped.is
 
-returns-4 : tie.Need-returns-4
-returns-4 c =
-    let refused = c.before.before in
-    let ran = refused.before.before.before.before in
-    let cleared = ran.before.before.before.before in
-    let start = cleared.before.before.before.before.before in
-    absurd (not-refused start.args.log.now start.args.area.now _ start.requires.1 cleared.clear.ensures _ _ ran.run.ensures _ refused.end3.given.1)
+returns-4 : tie.Need-returns-in-Refused
+returns-4 c = absurd (not-refused c.args.log.now c.args.area.now _ c.requires.1 c.clear.ensures _ _ c.run-end.ensures _ c.in-Refused.is)
 
 pub replay_and_compare_spec : {M : Type 1} → statement M
 replay_and_compare_spec =

@@ -10,7 +10,7 @@ walk-requires c κs =
     let second = c.before.before in
     let first = second.before in
     let start = first.before.before.before in
-    both-known start.args.first.now start.args.second.now _ _ start.requires.0 start.requires.1 first.codes-out.ensures second.codes-out2.ensures
+    both-known start.args.first.now start.args.second.now _ _ start.requires.0 start.requires.1 first.codes_out-n.ensures second.codes_out-m.ensures
 
 pub least_spec : {M : Type 1} → statement M
 least_spec =

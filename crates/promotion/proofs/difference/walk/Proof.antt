@@ -6,10 +6,10 @@ use Rattle.promotion.proofs.Walk.{Walked, walk-starts, only-first, only-second, 
 use Rattle.promotion.proofs.difference.walk.Statement.{statement}
 use Rattle.promotion.proofs.difference.walk.Tie as tie
 
-abbrev invariant-loop : tie.invariant-loop
+abbrev invariant-loop : tie.invariant-loop-i
 invariant-loop first n second m i₀ i = Walked (loans_at first) (loans_at second) i
 
-abbrev decreases-loop : tie.decreases-loop
+abbrev decreases-loop : tie.decreases-loop-i
 decreases-loop first n second m i₀ i = n - i
 
 pub walk_spec : {M : Type 1} → statement M

@@ -20,8 +20,8 @@ pub returns-then-used-eq-PLACES : goal.returns-then-used-eq-PLACES
 returns-then-used-eq-PLACES c =
     let area = below_all 256 c.args.area.now (λ k _. (c.slice_known-1.given k).fits) in
     let t =
-        issue-full c.args.code.now c.args.area.now c.requires.0 _ c.find-at.ensures _ c.next-next.ensures c.if-next-eq0.false area
-        c.args.borrower c.if-at.false _ c.codes_out-used.ensures.0 c.if-used-eq-PLACES.true in
+    issue-full c.args.code.now c.args.area.now c.requires.0 _ c.find-at.ensures _ c.next-next.ensures c.if-next-eq0.false area
+    c.args.borrower c.if-at.false _ c.codes_out-used.ensures.0 c.if-used-eq-PLACES.true in
     record { answer = t.0; area = t.1 }
 
 pub put-requires : goal.put-requires
@@ -38,7 +38,7 @@ returns c =
     let area = below_all 256 c.args.area.now (λ k _. (c.slice_known-1.given k).fits) in
     let code = below_all 256 c.args.code.now (λ k _. (c.type_inv.code k).fits) in
     let t =
-        issue-done c.args.code.now c.args.area.now c.requires.0 _ c.find-at.ensures _ c.next-next.ensures c.if-next-eq0.false area
-        c.args.borrower c.if-at.false _ c.codes_out-used.ensures.0 c.if-used-eq-PLACES.false code c.ranges.borrower.fits c.requires.1
-        _ _ c.put.auto.area c.put.ensures c.set.ensures in
+    issue-done c.args.code.now c.args.area.now c.requires.0 _ c.find-at.ensures _ c.next-next.ensures c.if-next-eq0.false area
+    c.args.borrower c.if-at.false _ c.codes_out-used.ensures.0 c.if-used-eq-PLACES.false code c.ranges.borrower.fits c.requires.1
+    _ _ c.put.auto.area c.put.ensures c.set.ensures in
     record { answer = t.0; area = t.1 }

@@ -22,8 +22,8 @@ pub returns-then-at : goal.returns-then-at
 returns-then-at c =
     let area = below_all 256 c.args.area.now (λ k _. (c.slice_known-1.given k).fits) in
     let t =
-        return-done c.args.code.now c.args.area.now c.requires _ c.find-at.ensures _ c.next-next.ensures c.if-next-eq0.false area
-        c.if-at.true _ c.codes_out-used.ensures.0 _ _ c.take.auto.area c.take.ensures c.set.ensures in
+    return-done c.args.code.now c.args.area.now c.requires _ c.find-at.ensures _ c.next-next.ensures c.if-next-eq0.false area
+    c.if-at.true _ c.codes_out-used.ensures.0 _ _ c.take.auto.area c.take.ensures c.set.ensures in
     record { answer = t.0; area = t.1 }
 
 pub returns : goal.returns

@@ -38,14 +38,11 @@ add-requires c κs = let t = this c.before.before.before in (omega arith, omega 
 add_at : tie.Need-overflow_add-at invariant-loop decreases-loop
 add_at c = let t = this c.before.before.before.before.before in record { fits = omega (arith, long c.before.before.before.before.before) }
 
-returns-2 : tie.Need-returns-then-bytes-at invariant-loop decreases-loop
-returns-2 c = (this c.before.before.before.before.before.before).ends _ c.before.before.add-after.ensures c.if-bytes-at.true
-
 loop-less : tie.Need-loop-q-smaller invariant-loop decreases-loop
 loop-less c = let t = this c.before.before.before.before.before.before in omega arith
 
 loop-again : tie.Need-loop-q-preserved invariant-loop decreases-loop
-loop-again c = (this c.before.before.before.before.before.before).more _ c.before.before.add-after.ensures c.if-bytes-at.false
+loop-again c = (this c.before.before.before.before.before.before).more _ c.add-after.ensures (omega arith)
 
 pub read_spec : {M : Type 1} → statement M
 read_spec =
@@ -66,6 +63,6 @@ read_spec =
     sub-add
     add-requires
     add_at
-    returns-2
+    (λ c. (this c.before.before.before.before.before.before).ends _ c.add-after.ensures (omega arith))
     loop-less
     loop-again)
