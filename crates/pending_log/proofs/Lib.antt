@@ -3,3 +3,4 @@ pub mod Sizes
 pub mod Applied
 pub mod Steps
 pub mod Appends
+pub mod HeldLog
