@@ -14,7 +14,6 @@ use Rattle.commands.specs.declared.command.Command.{Command}
 use Rattle.commands.specs.declared.command.Fault.{Fault}
 use Rattle.commands.specs.declared.command.Kind.TheVariants as kinds
 use Rattle.hall.specs.Faults.{fault_line}
-use Rattle.hall.specs.Serving as serving
 use Rattle.hall.specs.Serving.{not_served, ask_served, sheet_served, call_served, command_served, served}
 use Rattle.hall.specs.Said.{Said}
 use Rattle.hall.specs.declared.serving.Served.{Served}

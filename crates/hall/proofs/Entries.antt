@@ -12,7 +12,6 @@ use Rattle.iscc.specs.Digits.{digits}
 use Rattle.iscc.specs.Doors.{code_bytes}
 use Rattle.iscc.specs.Representation.{code_read_as}
 use Rattle.iscc.specs.declared.code.CodeRead.{CodeRead}
-use Rattle.iscc.specs.declared.code.CodeAnswer.TheVariants as coded
 use Rattle.iscc.proofs.Answer.{accept-inj}
 use Rattle.iscc.proofs.Digits.{length_digits}
 use Rattle.door.proofs.Answers.{Held, code-held}

@@ -1,20 +1,19 @@
 -- The counter's steps are those of the model of the disk.
 use Prim.Native.Nat.{ℕ}
-use mathlib.Core.Path.{◌≡◌, refl, sym, ◌∙◌}
+use mathlib.Core.Path.{◌≡◌, refl, ◌∙◌}
 use mathlib.Core.Bool.{Bool, true, false}
 use mathlib.Core.List.{List, [], ◌∷◌, ◌++◌, map}
 use native.Mathlib.Omega.{arith}
 use Rattle.iscc.specs.Answer.{Answer, accept, refuse}
-use Rattle.iscc.specs.Refusals.{Refusal, not_register}
+use Rattle.iscc.specs.Refusals.{Refusal}
 use Rattle.iscc.specs.Doors.{code_bytes}
 use Rattle.loans.specs.Map.{Change, issue_code, return_code}
 use Rattle.loans.specs.Calls.{Call, issue, take_back, ask, afterwards, done, issued, returned}
-use Rattle.loans.specs.Register.{changed_area}
-use Rattle.loans.specs.Contents.{register, is_register, issue_text, return_text, ask_text}
+use Rattle.loans.specs.Contents.{is_register, issue_text, return_text, ask_text}
 use Rattle.loans.specs.Fields.{field_bytes}
 use Rattle.loans.specs.Operations.{made_of, with_last}
 use Rattle.commands.specs.Commands.{sheet}
-use Rattle.recovery.specs.Disk.{Step, acknowledge, serve, acknowledged, steps_of}
+use Rattle.recovery.specs.Disk.{acknowledge, serve, acknowledged, steps_of}
 use Rattle.hall.specs.Serving.{code_of_typed, entry_of, issue_served, return_served, ask_served, call_served, command_served}
 use Rattle.hall.specs.ServingPromises.{steps_with, steps_for, CounterServes}
 

@@ -1,7 +1,7 @@
 -- What ties the counter's answers to what is promised of a crash (recovery/specs/Recovery.antt); the file of this name in proofs/ proves it.
-use Rattle.std.specs.Prelude.{ℕ, ◌≡◌, true, List, [], ◌∷◌}
+use Rattle.std.specs.Prelude.{ℕ, ◌≡◌, List, [], ◌∷◌}
 use Rattle.loans.specs.Calls.{Call}
-use Rattle.commands.specs.Commands.{Command, calls, sheet, faulty, Fault}
+use Rattle.commands.specs.Commands.{sheet, faulty, Fault}
 use Rattle.recovery.specs.Disk.{Step, writes, append, sync, acknowledge, serve, steps_of}
 use Rattle.hall.specs.Serving.{Served, call_served, command_served}
 

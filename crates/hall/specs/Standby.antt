@@ -1,5 +1,5 @@
 -- What the standby hall's program answers: to a replay, and to the question whether its replica may be promoted.
-use Rattle.std.specs.Prelude.{ℕ, cond, List, [], ◌∷◌, ◌++◌, length}
+use Rattle.std.specs.Prelude.{ℕ, cond, List, [], ◌++◌, length}
 use Rattle.iscc.specs.Answer.{Answer, accept, refuse}
 use Rattle.iscc.specs.Refusals.{Refusal, not_register}
 use Rattle.iscc.specs.Ascii.{ascii}

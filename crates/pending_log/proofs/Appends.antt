@@ -4,8 +4,8 @@ use mathlib.Core.Path.{◌≡◌, refl, sym, ◌∙◌, ap, subst}
 use mathlib.Core.Bool.{Bool, true, false, not, ◌&&◌}
 use mathlib.Core.List.{List, [], ◌∷◌, ◌++◌, append-nil, append_assoc}
 use native.Mathlib.Omega.{arith}
-use lib.ListN.{length, take, drop, length-append, length-drop, drop_of_length-le}
-use lib.Seq.{take-length, take_at, drop_at, drop-drop}
+use lib.ListN.{length, take, drop, length-append}
+use lib.Seq.{take_at, drop_at, drop-drop}
 use lib.Dec.{eqb}
 use borrow.Author.Tests.{le-leb, lt-leb, eq-eqb, ne_eqb}
 use Rattle.iscc.specs.Refusals.{area_too_short, not_record}
@@ -13,7 +13,6 @@ use Rattle.iscc.specs.Answer.{Answer, accept, refuse}
 use Rattle.iscc.specs.Digits.{digits, Below}
 use Rattle.iscc.proofs.Booleans.{both_true}
 use Rattle.iscc.proofs.Digits.{length_digits}
-use Rattle.iscc.proofs.Parts.{rest-is}
 use Rattle.loans.specs.Loan.{one_code}
 use Rattle.loans.specs.Map.{issue_code, return_code}
 use Rattle.loans.specs.Moves.{pasted}

@@ -6,7 +6,7 @@ use mathlib.Core.Option.{some}
 use mathlib.Core.List.{List, [], ◌++◌}
 use native.Mathlib.Omega.{arith}
 use lib.ListN.{length, take, drop, replicate}
-use lib.Seq.{take-length, take-append_seam}
+use lib.Seq.{take-append_seam}
 use Rattle.iscc.specs.Answer.{number_of}
 use Rattle.iscc.specs.Lists.{zero_filled}
 use Rattle.iscc.specs.Representation.{code_as}

@@ -1,8 +1,7 @@
 -- A small model of the disk: a folder with the log and the register file, the operations that the counter makes on them, and what a crash
 -- may leave. "Synced bytes stay; of the unsynced ones any prefix may."
-use Rattle.std.specs.Prelude.{ℕ, ◌≡◌, ◌⊎◌, List, [], ◌∷◌, ◌++◌, map, take}
-use Rattle.iscc.specs.Answer.{Answer, accept, refuse}
-use Rattle.loans.specs.Calls.{Call, CallResult}
+use Rattle.std.specs.Prelude.{ℕ, ◌≡◌, ◌⊎◌, List, [], ◌∷◌, ◌++◌, take}
+use Rattle.loans.specs.Calls.{Call}
 use Rattle.loans.specs.Register.{call_area}
 use Rattle.loans.specs.Contents.{register}
 use Rattle.loans.specs.Fields.{field_bytes}

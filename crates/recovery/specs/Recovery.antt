@@ -1,20 +1,19 @@
 -- What is promised of the counter's folder after a crash at any step, a field for each sentence; the file of this name in proofs/ proves
 -- it. And of a promotion whose log came in pieces.
-use Rattle.std.specs.Prelude.{ℕ, ◌≤◌, ◌≡◌, ◌⊎◌, true, length, take, drop}
-use mathlib.Core.List.{List, [], ◌∷◌, ◌++◌, flatten}
+use Rattle.std.specs.Prelude.{ℕ, ◌≤◌, ◌≡◌, ◌⊎◌, length, take, drop}
+use mathlib.Core.List.{List, [], ◌∷◌, flatten}
 use Rattle.iscc.specs.Answer.{accept}
 use Rattle.iscc.specs.Digits.{Below}
-use Rattle.loans.specs.Calls.{Call}
 use Rattle.loans.specs.Numbered.{nothing}
-use Rattle.loans.specs.Contents.{is_register, contents_of, bytes_of, empty_register}
+use Rattle.loans.specs.Contents.{contents_of, bytes_of, empty_register}
 use Rattle.loans.specs.Good.{GoodCall}
-use Rattle.loans.specs.Replay.{End, ended, torn, stopped, Replayed}
+use Rattle.loans.specs.Replay.{End, ended, torn}
 use Rattle.loans.specs.Tears.{applied_log}
 use Rattle.loans.specs.PendingLog.{apply_record, replay_log}
 use Rattle.loans.specs.Promotion.{promotion}
 use Rattle.recovery.specs.Pieces.{number_reached, going, fed_all, finished, InPieces}
 use Rattle.recovery.specs.Concluded.{concluded}
-use Rattle.recovery.specs.Disk.{Folder, Left, Work, serve, snapshot, Step, after, all_steps, start_steps, last_acknowledged, next_acknowledged}
+use Rattle.recovery.specs.Disk.{Folder, Left, Work, serve, snapshot, after, all_steps, start_steps, last_acknowledged, next_acknowledged}
 
 -- a log and a register file from which a start finds a register: the log runs to its end over the file, and reaches its last number
 pub record Finds (log file area : List ℕ) : Type 0 where

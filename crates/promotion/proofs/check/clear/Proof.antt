@@ -1,7 +1,6 @@
 -- `check::clear` meets its contract. The loop's invariant: the bytes before i are zeros.
 use Prim.Native.Nat.{◌-◌}
 use lib.ListN.{length}
-use native.Mathlib.Omega.{arith}
 use borrow.Author.Rules.{rules}
 use Rattle.iscc.proofs.Area.{length-written}
 use Rattle.promotion.proofs.Cleared.{Cleared, none-cleared, next-cleared, all-cleared}
