@@ -109,9 +109,15 @@ open_streams() {
     exec </dev/null
 }
 
+# Whether a path is plain ASCII, which the program takes as it is.
+is_plain() {
+    local LC_ALL=C
+    [[ $1 != *[!\ -~]* ]]
+}
+
 # on_folder DIR WORD..: the program on a folder that it has for itself, until it ends. Its files are for owner and group alone.
 on_folder() {
-    local lock
+    local lock log words=("$@")
     umask 007
     if ! command -v flock >/dev/null; then
         say 'flock is missing: Debian has it in util-linux'
@@ -126,7 +132,12 @@ on_folder() {
         say "another program is at work on $1"
         return 2
     fi
-    { "$program" "$@" 2>&1 >&3 3>&- | closed 3>&-; } 3>&1
+    # The program takes paths as UTF-8 text: for what may be none stands its descriptor.
+    is_plain "$1" || words[0]=/dev/fd/$lock
+    if [ "$name" = standby ] && [ "$#" = 3 ] && [ "$2" != ask ] && ! is_plain "$3" && { exec {log}<"$3"; } 2>/dev/null; then
+        words[2]=/dev/fd/$log
+    fi
+    { "$program" "${words[@]}" 2>&1 >&3 3>&- | closed 3>&-; } 3>&1
 }
 
 # run_hall WORD..: the options, then the program.

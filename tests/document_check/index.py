@@ -48,8 +48,10 @@ def all_paths() -> set[str]:
     """Files and folders of the repository from its top, without what is built."""
     found: set[str] = set()
     for folder, folders, files in os.walk(TOP):
-        folders[:] = [f for f in folders if f not in {".git", "target", "__pycache__"}]
         inside = os.path.relpath(folder, TOP)
+        # In a crate's own folder, out/ is what rt makes.
+        built = {"out"} if os.path.dirname(inside) == "crates" else set()
+        folders[:] = [f for f in folders if f not in {".git", "target", "__pycache__"} | built]
         for name in folders + files:
             found.add(os.path.normpath(os.path.join(inside, name)))
     return found

@@ -9,18 +9,20 @@ import tempfile
 TOP = os.path.abspath(os.path.join(os.path.dirname(os.path.abspath(__file__)), "../.."))
 BUILT = os.path.join(TOP, "target/tests/halls")
 PRELOAD = os.path.join(BUILT, "preload.so")
-# What the programs may import that touches files: preload.c stands before all of it but `fchmod` and `lseek`, which change no bytes.
-IMPORTED = {"open", "close", "read", "write", "pread", "pwrite", "ftruncate", "fsync", "fdatasync", "rename", "unlink", "mkstemp",
-            "fchmod", "lseek"}
+# What the programs may import that touches files: preload.c stands before all of it but `fchmod`, `lseek`, `fcntl` and `flock`, which
+# change no bytes.
+IMPORTED = {"open", "close", "read", "write", "pread", "pwrite", "ftruncate", "fsync", "fdatasync", "rename", "unlink", "fchmod", "lseek",
+            "fcntl", "flock"}
+# `__write` is called before main, where the processor lacks what the program is built for.
 BESIDE = {"memcpy", "memmove", "memset", "memcmp", "bcmp", "strlen", "__errno_location", "__libc_start_main", "__xpg_strerror_r",
-          "__stack_chk_fail"}
+          "__stack_chk_fail", "__sysv_signal", "__write", "__x86_get_cpuid_feature_leaf", "getentropy"}
 
 
 def build():
     os.makedirs(BUILT, exist_ok=True)
     source, made = os.path.join(TOP, "tests/halls/preload.c"), f"{PRELOAD}.{os.getpid()}"
     options = ["-std=gnu11", "-O1", "-Wall", "-Wextra", "-Werror", "-shared", "-fPIC"]
-    subprocess.run(["gcc", *options, source, "-o", made, "-ldl"], check=True)
+    subprocess.run(["gcc", *options, source, "-o", made], check=True)
     # In one step: another run may be using it.
     os.replace(made, PRELOAD)
 
@@ -33,7 +35,7 @@ def imports(program):
 
 
 def program_path(program):
-    return os.path.join(TOP, "target/bin", program)
+    return os.path.join(TOP, "crates", program, "out", program)
 
 
 class Room:

@@ -18,7 +18,6 @@
  * In any other program, as the shell that starts one, it does nothing.
  */
 #define _GNU_SOURCE
-#include <dlfcn.h>
 #include <errno.h>
 #include <fcntl.h>
 #include <signal.h>
@@ -156,19 +155,6 @@ int open(const char *path, int flags, ...) {
     mode = flags & O_CREAT ? va_arg(words, int) : 0;
     va_end(words);
     return opened(path, flags, mode);
-}
-
-int mkstemp(char *path) {
-    int (*real)(char *) = (int (*)(char *))dlsym(RTLD_NEXT, "mkstemp");
-    int fd;
-    if (inside(path) && deny) return fails_with((int)deny);
-    fd = real(path);
-    if (inside(path) && fd >= 0 && fd < MOST_FDS) {
-        followed[fd] = 1;
-        roles[fd] = OTHER;
-        did(NULL, 0, "open %s %d 1", inside(path), fd);
-    }
-    return fd;
 }
 
 int close(int fd) {
@@ -336,7 +322,6 @@ int unlink(const char *path) {
 /* ---- the same under the names for long files */
 
 int open64(const char *path, int flags, ...) __attribute__((alias("open")));
-int mkstemp64(char *path) __attribute__((alias("mkstemp")));
 ssize_t pread64(int fd, void *to, size_t count, off_t offset) __attribute__((alias("pread")));
 ssize_t pwrite64(int fd, const void *from, size_t count, off_t offset) __attribute__((alias("pwrite")));
 int ftruncate64(int fd, off_t length) __attribute__((alias("ftruncate")));

@@ -1,6 +1,6 @@
 // The counter's program.
 #![tactic(auto)]
 
-fn main() {
-    files::counter::run();
+fn main(rt: HostRuntime) {
+    files::counter::run(rt);
 }

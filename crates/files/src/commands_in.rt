@@ -1,9 +1,10 @@
 // Standard input by lines. The bytes that were read and not yet served stand in an area; a line that does not fit it is too long for a
 // command, is served as far as it fits, which says so, and is passed over up to its end.
-ghost use Rattle.std.specs.Prelude.{◌≡◌, ◌≤◌, length};
+ghost use Rattle.std.specs.Prelude.{◌≡◌, false, ◌+◌, ◌^◌, ◌<◌, ◌≤◌, length};
 
-use libc::STDIN_FILENO;
+use crate::say;
 use lines::scan::line_length;
+use std::io::{ErrorKind, Read};
 
 // What stands in the area from start to end; whether the input has ended, or could not be read; whether the rest of a line is passed over.
 #[derive(Clone, Copy)]
@@ -49,23 +50,12 @@ fn move_down(area: &mut [u8], start: usize, end: usize)
     }
 }
 
-// Reads behind what is there, which is moved to the front. A read that a signal interrupted adds nothing, and is made again.
-fn fill(area: &mut [u8], start: usize, end: usize, passing: bool) -> Step
-    requires start_le_end { start ≤ end }
-    requires end_in_bounds { end ≤ length area.old }
-    ensures { (result.from ≤ result.to) × (result.to ≤ length area.old) × (result.input.start ≤ result.input.end) × (result.input.end ≤ length area.old) × (length area.new ≡ length area.old) }
+// Behind a read: so many more bytes stand there, or the input has ended, or could not be read.
+fn filled(held: usize, count: usize, ended: bool, failed: bool, passing: bool) -> Step
+    requires { held + count < 2 ^ 64 }
+    ensures step { (result.serves ≡ false) × (result.from ≡ 0) × (result.to ≡ 0) }
+    ensures input { (result.input.start ≡ 0) × (result.input.end ≡ held + count) }
 {
-    move_down(area, start, end);
-    let held = end - start;
-    let got = libc::read(STDIN_FILENO, &mut area[held..]);
-    let count = io::count(got, &area[held..]);
-    let mut failed = false;
-    if got < 0 {
-        if os::errno() != libc::EINTR {
-            os::fail(b"cannot read the commands");
-            failed = true;
-        }
-    }
     Step {
         serves: false,
         from: 0,
@@ -73,15 +63,35 @@ fn fill(area: &mut [u8], start: usize, end: usize, passing: bool) -> Step
         input: Input {
             start: 0,
             end: held + count,
-            ended: got == 0,
+            ended: ended,
             failed: failed,
             passing: passing,
         },
     }
 }
 
+// Reads behind what is there, which is moved to the front. A read that a signal interrupted adds nothing, and is made again.
+fn fill(rt: &HostRuntime, area: &mut [u8], start: usize, end: usize, passing: bool) -> Step
+    requires start_le_end { start ≤ end }
+    requires end_in_bounds { end ≤ length area.old }
+    ensures { (result.from ≤ result.to) × (result.to ≤ length area.old) × (result.input.start ≤ result.input.end) × (result.input.end ≤ length area.old) × (length area.new ≡ length area.old) }
+{
+    move_down(area, start, end);
+    let held = end - start;
+    match rt.stdin().read(&mut area[held..]) {
+        Ok(count) => filled(held, count, count == 0, false, passing),
+        Err(error) => {
+            if error.kind() == ErrorKind::Interrupted {
+                return filled(held, 0, false, false, passing);
+            }
+            say::fail(rt, b"cannot read the commands", error);
+            filled(held, 0, false, true, passing)
+        }
+    }
+}
+
 // The next line, or what is to be read before there is one.
-pub fn next(area: &mut [u8], input: Input) -> Step
+pub fn next(rt: &HostRuntime, area: &mut [u8], input: Input) -> Step
     requires start_le_end { input.start ≤ input.end }
     requires end_in_bounds { input.end ≤ length area.old }
     ensures { (result.from ≤ result.to) × (result.to ≤ length area.old) × (result.input.start ≤ result.input.end) × (result.input.end ≤ length area.old) × (length area.new ≡ length area.old) }
@@ -119,7 +129,7 @@ pub fn next(area: &mut [u8], input: Input) -> Step
         };
     }
     if held < area.len() {
-        return fill(area, start, end, input.passing);
+        return fill(rt, area, start, end, input.passing);
     }
     Step {
         serves: !input.passing,

@@ -2,6 +2,7 @@
 // `hall`; here are the operations on files, in the order that `recovery` proves to survive a crash.
 #![tactic(auto)]
 
+mod arguments;
 mod bytes_at;
 mod commands_in;
 pub mod counter;

@@ -1,14 +1,19 @@
 // The log file: replayed in pieces, appended to, cut off at a tear.
 ghost use Rattle.std.specs.Prelude.{◌≤◌, length};
 
-use crate::bytes_at::LONGEST_FILE;
+use crate::bytes_at::{LONGEST_FILE, too_far};
+use crate::folder::{open_to_read, text_of};
 use crate::parts::front;
 use crate::register_file::MODE;
-use crate::{bytes_at, folder};
+use crate::{bytes_at, folder, say};
 use iscc::refusal::Refusal;
 use pending_log::replay::Replayed;
 use recovery::pieces;
 use recovery::pieces::Fed;
+use std::fs::{File, OpenOptions, Permissions};
+use std::io;
+use std::io::{Seek, SeekFrom};
+use std::os::unix::fs::PermissionsExt;
 
 // The bytes that are read at a time: more than the longest field has.
 const PIECE: usize = 131072;
@@ -99,10 +104,17 @@ fn taken(piece: &[u8], count: usize, used: usize, offset: usize, before: u32) ->
 }
 
 // The piece that starts at an offset.
-fn replay_piece(fd: i32, area: &mut [u8], piece: &mut [u8], offset: usize, before: u32) -> Turn {
-    let moved = bytes_at::read(fd, piece, offset);
-    if moved.failed {
-        os::fail(b"cannot read the log");
+fn replay_piece(
+    rt: &HostRuntime,
+    log: &File,
+    area: &mut [u8],
+    piece: &mut [u8],
+    offset: usize,
+    before: u32,
+) -> Turn {
+    let moved = bytes_at::read(log, piece, offset);
+    if let Some(error) = moved.failure {
+        say::fail(rt, b"cannot read the log", error);
         return unread();
     }
     let count = moved.count;
@@ -124,87 +136,95 @@ fn stopped(q: Refusal, offset: usize, at: usize, reached: u32) -> Turn {
 }
 
 // Replays the log over the area's register, piece by piece; what is left of one is read again with the next.
-pub fn replay(fd: i32, area: &mut [u8]) -> LogRead {
+pub fn replay(rt: &HostRuntime, log: &File, area: &mut [u8]) -> LogRead {
     let mut space = [0u8; PIECE];
     let piece: &mut [u8] = &mut space;
     let mut offset = 0;
     let mut reached = 0;
-    let mut turns = u64::MAX;
-    while turns > 0 {
-        let next = replay_piece(fd, area, piece, offset, reached);
+    for _ in 0..u64::MAX {
+        let next = replay_piece(rt, log, area, piece, offset, reached);
         if !next.more {
             return next.read;
         }
         offset = next.offset;
         reached = next.read.reached;
-        turns -= 1;
     }
     not_read()
 }
 
-// The log of a folder, open for reading and writing or for reading alone; below 0 where it cannot be opened.
-pub fn open(name: &[u8], writes: bool) -> i32 {
+// The log of a folder, open for reading and writing or for reading alone.
+pub fn open(rt: &HostRuntime, name: &[u8], writes: bool) -> io::Result<File> {
     let path = folder::name_in(name, b"log");
     let bytes = path.bytes;
     let end = path.length;
     if writes {
-        return os::open_update(front(&bytes, end));
+        return open_to_write(rt, front(&bytes, end));
     }
-    os::open_read(front(&bytes, end))
+    open_to_read(rt, front(&bytes, end))
+}
+
+fn open_to_write(rt: &HostRuntime, path: &[u8]) -> io::Result<File> {
+    OpenOptions::new()
+        .read(true)
+        .write(true)
+        .open(rt, text_of(path)?)
 }
 
 // Makes an empty log where there is none; its name lasts before there is a register.
-pub fn create(name: &[u8]) -> bool {
+pub fn create(rt: &HostRuntime, name: &[u8]) -> io::Result<()> {
     let path = folder::name_in(name, b"log");
     let bytes = path.bytes;
     let end = path.length;
-    let fd = os::create(front(&bytes, end));
-    if fd < 0 {
-        return false;
-    }
-    if libc::fchmod(fd, MODE) != 0 {
-        return false;
-    }
-    if libc::fsync(fd) != 0 {
-        return false;
-    }
-    libc::close(fd);
-    folder::sync(name)
+    make_empty(rt, front(&bytes, end))?;
+    folder::sync(rt, name)
+}
+
+fn make_empty(rt: &HostRuntime, path: &[u8]) -> io::Result<()> {
+    let log = OpenOptions::new()
+        .write(true)
+        .create_new(true)
+        .open(rt, text_of(path)?)?;
+    log.set_permissions(Permissions::from_mode(MODE))?;
+    log.sync_all()
 }
 
 // Whether the file still has so many bytes.
-pub fn has_length(fd: i32, length: usize) -> bool {
+pub fn has_length(log: &File, length: usize) -> bool {
     if length > LONGEST_FILE {
         return false;
     }
-    libc::lseek(fd, 0, libc::SEEK_END) == length as i64
+    let mut end = log;
+    match end.seek(SeekFrom::End(0)) {
+        Ok(offset) => offset == length as u64,
+        Err(_) => false,
+    }
 }
 
 // Cuts the log off at an offset, and syncs that.
-pub fn cut(fd: i32, offset: usize) -> bool {
+pub fn cut(log: &File, offset: usize) -> io::Result<()> {
     if offset > LONGEST_FILE {
-        return false;
+        return Err(too_far());
     }
-    if libc::ftruncate(fd, offset as i64) != 0 {
-        return false;
-    }
-    libc::fdatasync(fd) == 0
+    log.set_len(offset as u64)?;
+    log.sync_data()
 }
 
 // Makes what was written to the log last. A register file that is made from a log comes behind this, so that it is never ahead of it.
-pub fn sync(fd: i32) -> bool {
-    if libc::fdatasync(fd) != 0 {
-        os::fail(b"cannot sync the log");
-        return false;
+pub fn sync(rt: &HostRuntime, log: &File) -> bool {
+    match log.sync_data() {
+        Ok(()) => true,
+        Err(error) => {
+            say::fail(rt, b"cannot sync the log", error);
+            false
+        }
     }
-    true
 }
 
 // Appends a record at the log's end, and syncs it.
-pub fn append(fd: i32, entry: &[u8], length: usize) -> bool {
-    if !bytes_at::write(fd, entry, length) {
-        os::fail(b"cannot write to the log");
+pub fn append(rt: &HostRuntime, log: &File, entry: &[u8], length: usize) -> bool {
+    if let Err(error) = bytes_at::write(log, entry, length) {
+        say::fail(rt, b"cannot write to the log", error);
         return false;
     }
-    sync(fd)
+    sync(rt, log)
 }

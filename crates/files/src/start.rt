@@ -8,14 +8,14 @@ use iscc::refusal::Refusal;
 use loans::layout::REGISTER_LENGTH;
 use pending_log::replay::Replayed;
 use register::check;
+use std::fs::File;
 
 // A snapshot is written where it spares the next start the replay of so many records: docs/RELIABILITY.md has the measurement.
 const SNAPSHOT_AFTER: u32 = 1000;
 
-// A folder at work: the log's descriptor and its length, and the last number of the register file.
+// A folder at work: the log's length, and the last number of the register file.
 #[derive(Clone, Copy)]
 pub struct OpenLog {
-    pub log: i32,
     pub length: usize,
     pub saved: u32,
     pub status: u8,
@@ -23,15 +23,14 @@ pub struct OpenLog {
 
 pub fn failed() -> OpenLog {
     OpenLog {
-        log: -1,
         length: 0,
         saved: 0,
         status: FAILED,
     }
 }
 
-fn tell_damaged() {
-    say::tell_line(replies::refused(Refusal::NOT_REGISTER));
+fn tell_damaged(rt: &HostRuntime) {
+    say::tell_line(rt, replies::refused(Refusal::NOT_REGISTER));
 }
 
 // Whether a register stands in front of the area.
@@ -43,19 +42,20 @@ fn is_register_in(area: &[u8]) -> bool {
 }
 
 // Reads the register file, with a byte more than it may have. What is wrong with it is told.
-pub fn load(name: &[u8], area: &mut [u8]) -> bool {
-    match register_file::load(name, area) {
+pub fn load(rt: &HostRuntime, name: &[u8], area: &mut [u8]) -> bool {
+    match register_file::load(rt, name, area) {
         Loaded::Length(n) => {
             if n == REGISTER_LENGTH {
                 if is_register_in(area) {
                     return true;
                 }
             }
-            tell_damaged();
+            tell_damaged(rt);
             false
         }
         Loaded::Missing => {
             say::tell(
+                rt,
                 b"there is no register: rebuild makes it from the log, new begins a register and a log",
             );
             false
@@ -65,41 +65,46 @@ pub fn load(name: &[u8], area: &mut [u8]) -> bool {
 }
 
 // A torn last record is told, and cut off where the run may write.
-fn cut_off(fd: i32, offset: usize, writes: bool) -> bool {
+fn cut_off(rt: &HostRuntime, log: &File, offset: usize, writes: bool) -> bool {
     if !writes {
         say::tell_number(
+            rt,
             b"the log is torn: the next change cuts it off at byte ",
             offset as u64,
         );
         return true;
     }
-    if log_file::cut(fd, offset) {
-        say::tell_number(b"the log was torn: it is cut off at byte ", offset as u64);
-        return true;
+    if let Err(error) = log_file::cut(log, offset) {
+        say::fail(rt, b"cannot cut off the torn record", error);
+        return false;
     }
-    os::fail(b"cannot cut off the torn record");
-    false
+    say::tell_number(
+        rt,
+        b"the log was torn: it is cut off at byte ",
+        offset as u64,
+    );
+    true
 }
 
 // What the log gave: it is made to last as it was found, and reaches as far as the register.
-fn admit(fd: i32, length: usize, reached: u32, area: &[u8]) -> bool {
-    if !log_file::has_length(fd, length) {
-        say::tell(b"the log was changed while it was read");
+fn admit(rt: &HostRuntime, log: &File, length: usize, reached: u32, area: &[u8]) -> bool {
+    if !log_file::has_length(log, length) {
+        say::tell(rt, b"the log was changed while it was read");
         return false;
     }
     if reached != register_file::last_number(area) {
         say::tell_number(
+            rt,
             b"the log lacks records that the register has: its last one is ",
             reached as u64,
         );
         return false;
     }
-    log_file::sync(fd)
+    log_file::sync(rt, log)
 }
 
-fn begun(fd: i32, length: usize, saved: u32) -> OpenLog {
+fn begun(length: usize, saved: u32) -> OpenLog {
     OpenLog {
-        log: fd,
         length: length,
         saved: saved,
         status: DONE,
@@ -107,8 +112,8 @@ fn begun(fd: i32, length: usize, saved: u32) -> OpenLog {
 }
 
 // Brings the register up to the log.
-fn catch_up(fd: i32, area: &mut [u8], saved: u32, writes: bool) -> OpenLog {
-    let read = log_file::replay(fd, area);
+fn catch_up(rt: &HostRuntime, log: &File, area: &mut [u8], saved: u32, writes: bool) -> OpenLog {
+    let read = log_file::replay(rt, log, area);
     if read.unread {
         return failed();
     }
@@ -117,48 +122,54 @@ fn catch_up(fd: i32, area: &mut [u8], saved: u32, writes: bool) -> OpenLog {
     let reached = read.reached;
     match end {
         Replayed::Ended => {
-            if admit(fd, length, reached, area) {
-                return begun(fd, length, saved);
+            if admit(rt, log, length, reached, area) {
+                return begun(length, saved);
             }
             failed()
         }
         Replayed::Torn(offset) => {
-            if admit(fd, length, reached, area) {
-                if cut_off(fd, offset, writes) {
-                    return begun(fd, offset, saved);
+            if admit(rt, log, length, reached, area) {
+                if cut_off(rt, log, offset, writes) {
+                    return begun(offset, saved);
                 }
             }
             failed()
         }
         Replayed::Stopped(q, offset) => {
-            say::tell_line(standby::replay_line(Replayed::Stopped(q, offset), area));
+            say::tell_line(rt, standby::replay_line(Replayed::Stopped(q, offset), area));
             failed()
         }
         Replayed::Refused(q) => {
-            say::tell_line(replies::refused(q));
+            say::tell_line(rt, replies::refused(q));
             failed()
+        }
+    }
+}
+
+// The log of a folder, if it can be opened.
+pub fn open(rt: &HostRuntime, name: &[u8], writes: bool) -> Option<File> {
+    match log_file::open(rt, name, writes) {
+        Ok(log) => Some(log),
+        Err(error) => {
+            say::fail(rt, b"cannot open the log", error);
+            None
         }
     }
 }
 
 // A start on a folder: its register file, then what its log has more.
-pub fn start(name: &[u8], area: &mut [u8], writes: bool) -> OpenLog {
-    let fd = log_file::open(name, writes);
-    if fd < 0 {
-        os::fail(b"cannot open the log");
-        return failed();
-    }
+pub fn start(rt: &HostRuntime, log: &File, area: &mut [u8], writes: bool) -> OpenLog {
     let saved = register_file::last_number(area);
-    catch_up(fd, area, saved, writes)
+    catch_up(rt, log, area, saved, writes)
 }
 
 // A snapshot, where it is worth one. That it could not be made is told, and loses nothing: the log has every change.
-pub fn keep(name: &[u8], area: &[u8], saved: u32) {
+pub fn keep(rt: &HostRuntime, name: &[u8], area: &[u8], saved: u32) {
     let last = register_file::last_number(area);
     if last < saved {
         return;
     }
     if last - saved >= SNAPSHOT_AFTER {
-        register_file::save(name, area, false);
+        register_file::save(rt, name, area, false);
     }
 }

@@ -7,27 +7,35 @@ use crate::{commands_in, log_file, say, start};
 use answers::line::Line;
 use hall::serving::LONGEST_RECORD;
 use hall::{serving, sheet};
+use std::fs::File;
+
+// The bytes of standard input that are held at a time.
+const ROOM: usize = 65536;
 
 // The sheet's lines behind the first.
-fn put_sheet(area: &[u8]) -> bool {
-    let count = sheet::count(area);
-    let mut i = 1;
-    while i < count {
-        if !say::answer(sheet::line(area, i)) {
+fn put_sheet(rt: &HostRuntime, area: &[u8]) -> bool {
+    for i in 1..sheet::count(area) {
+        if !say::answer(rt, sheet::line(area, i)) {
             return false;
         }
-        i += 1;
     }
     true
 }
 
 // The answer to a command that is done; a change is in the log and synced by then.
-fn put_answer(line: Line, is_refused: bool, is_sheet: bool, area: &[u8], before: u8) -> u8 {
-    if !say::answer(line) {
+fn put_answer(
+    rt: &HostRuntime,
+    line: Line,
+    is_refused: bool,
+    is_sheet: bool,
+    area: &[u8],
+    before: u8,
+) -> u8 {
+    if !say::answer(rt, line) {
         return FAILED;
     }
     if is_sheet {
-        if !put_sheet(area) {
+        if !put_sheet(rt, area) {
             return FAILED;
         }
     }
@@ -38,12 +46,24 @@ fn put_answer(line: Line, is_refused: bool, is_sheet: bool, area: &[u8], before:
 }
 
 // A record at the log's end, synced.
-fn append(log: i32, entry: [u8; LONGEST_RECORD], count: usize, length: usize) -> bool {
-    log_file::append(log, front(&entry, count), length)
+fn append(
+    rt: &HostRuntime,
+    log: &File,
+    entry: [u8; LONGEST_RECORD],
+    count: usize,
+    length: usize,
+) -> bool {
+    log_file::append(rt, log, front(&entry, count), length)
 }
 
 // One command: served on the register, appended to the log and synced, and then answered.
-pub fn serve(line: &[u8], area: &mut [u8], opened: OpenLog) -> OpenLog {
+pub fn serve(
+    rt: &HostRuntime,
+    log: &File,
+    line: &[u8],
+    area: &mut [u8],
+    opened: OpenLog,
+) -> OpenLog {
     let mut entry = [0u8; LONGEST_RECORD];
     let served = serving::serve(line, area, &mut entry);
     let count = served.entry;
@@ -55,12 +75,13 @@ pub fn serve(line: &[u8], area: &mut [u8], opened: OpenLog) -> OpenLog {
         if length > LONGEST_FILE {
             return start::failed();
         }
-        if !append(opened.log, entry, count, length) {
+        if !append(rt, log, entry, count, length) {
             return start::failed();
         }
         length += count;
     }
     let status = put_answer(
+        rt,
         served.line,
         served.refused,
         served.sheet,
@@ -68,7 +89,6 @@ pub fn serve(line: &[u8], area: &mut [u8], opened: OpenLog) -> OpenLog {
         opened.status,
     );
     OpenLog {
-        log: opened.log,
         length: length,
         saved: opened.saved,
         status: status,
@@ -76,21 +96,27 @@ pub fn serve(line: &[u8], area: &mut [u8], opened: OpenLog) -> OpenLog {
 }
 
 // A line that may only have been passed over.
-fn serve_if(serves: bool, line: &[u8], area: &mut [u8], opened: OpenLog) -> OpenLog {
+fn serve_if(
+    rt: &HostRuntime,
+    log: &File,
+    serves: bool,
+    line: &[u8],
+    area: &mut [u8],
+    opened: OpenLog,
+) -> OpenLog {
     if serves {
-        return serve(line, area, opened);
+        return serve(rt, log, line, area, opened);
     }
     opened
 }
 
 // The commands of standard input, a line each.
-pub fn serve_all(area: &mut [u8], begin: OpenLog) -> OpenLog {
-    let mut room = io::large_buffer();
+pub fn serve_all(rt: &HostRuntime, log: &File, area: &mut [u8], begin: OpenLog) -> OpenLog {
+    let mut room = [0u8; ROOM];
     let space: &mut [u8] = &mut room;
     let mut opened = begin;
     let mut input = commands_in::begin();
-    let mut turns = u64::MAX;
-    while turns > 0 {
+    for _ in 0..u64::MAX {
         if opened.status == FAILED {
             return opened;
         }
@@ -102,13 +128,12 @@ pub fn serve_all(area: &mut [u8], begin: OpenLog) -> OpenLog {
                 return opened;
             }
         }
-        let step = commands_in::next(space, input);
+        let step = commands_in::next(rt, space, input);
         let from = step.from;
         let to = step.to;
-        let next = serve_if(step.serves, &space[from..to], area, opened);
+        let next = serve_if(rt, log, step.serves, &space[from..to], area, opened);
         opened = next;
         input = step.input;
-        turns -= 1;
     }
     opened
 }

@@ -1,6 +1,6 @@
 // The standby hall's program.
 #![tactic(auto)]
 
-fn main() {
-    files::standby::run();
+fn main(rt: HostRuntime) {
+    files::standby::run(rt);
 }
