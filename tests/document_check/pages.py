@@ -63,9 +63,9 @@ def open_document(path: str) -> Document:
     return Document(path, lines, prose, code)
 
 
-# Notes of past landings stay as they landed: they speak of their own time, and names may be gone since. A landing adds the
+# Notes of past landings, and of the port, stay as they landed: they speak of their time, and names may be gone. A landing adds the
 # note before its own.
-PAST = {f"docs/landings/{name}.md" for name in ("ground", "friendly", *"abcdefgh", "halls")}
+PAST = {"docs/PORT.md", *(f"docs/landings/{name}.md" for name in ("ground", "friendly", *"abcdefgh", "halls"))}
 
 
 def documents(index: Index) -> list[str]:
