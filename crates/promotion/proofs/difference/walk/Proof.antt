@@ -1,5 +1,6 @@
 -- `difference::walk` meets its contract. The loop's invariant: the loans before place i are the same in both.
 use Prim.Native.Nat.{◌-◌}
+use native.Mathlib.Omega.{arith}
 use borrow.Author.Rules.{rules}
 use Rattle.loans.specs.Order.{loans_at}
 use Rattle.promotion.proofs.Walk.{Walked, walk-starts, only-first, only-second, no_more, first-told, second-told, one_more}
@@ -20,7 +21,7 @@ walk_spec =
     decreases-loop
     (λ c. walk-starts _ _)
     (λ c κs. search rules)
-    (λ c. search only-first)
+    (λ c. only-first _ _ c.args.n c.args.m c.requires.2 c.requires.6 c.loop-i.i c.loop-i.invariant (omega arith) (omega arith) _ (search rules))
     (λ c κs. search rules)
     (λ c. search rules)
     (λ c. search rules)
@@ -33,6 +34,6 @@ walk_spec =
     (λ c κs. search rules)
     (λ c. search second-told)
     (λ c κs. search rules)
-    (λ c. search only-second)
+    (λ c. only-second _ _ c.args.n c.args.m c.requires.2 c.requires.6 c.loop-i.i c.loop-i.invariant (omega arith) (omega arith) _ (search rules))
     (λ c κs. search rules)
     (λ c. search no_more))

@@ -5,9 +5,6 @@ use Rattle.register.proofs.Areas.{register-length, register-is}
 use Rattle.register.proofs.check.is_register.Statement.{statement}
 use Rattle.register.proofs.check.is_register.Tie as tie
 
-returns : tie.Need-returns-then-area-ne-REGISTER_LENGTH
-returns c = register-length _ (λ e. omega (arith, e, c.if-area-ne-REGISTER_LENGTH.true))
-
 returns-2 : tie.Need-returns
 returns-2 c = search register-is
 
@@ -15,7 +12,7 @@ pub is_register_spec : {M : Type 1} → statement M
 is_register_spec =
     tie.close
     (tie.spec
-    returns
+    (λ c. register-length c.args.area.now (λ e. omega arith))
     (λ c. search rules)
     (λ c. search rules)
     (λ c. search rules)

@@ -19,9 +19,6 @@ returns-4 c = search refused-data
 returns-5 : tie.Need-returns-then-offset_of-eq0-2
 returns-5 c = search refused-instance
 
-returns-6 : tie.Need-returns-then-list-count-4
-returns-6 c = search refused-14
-
 returns-7 : tie.Need-returns
 returns-7 c = search makes_one
 
@@ -38,5 +35,5 @@ decide_spec =
     (λ c κs. search rules)
     (λ c κs. search rules)
     returns-5
-    returns-6
+    (λ c. search refused-14)
     returns-7)
