@@ -100,9 +100,12 @@ def index_library(text: str, index: Index) -> None:
 
 
 RT_ITEM = re.compile(
-    r'^( *)(?:pub(?:\(crate\))? )?(?:extern "C" )?(fn|struct|enum|const|impl|mod) (\w+)'
+    r'^( *)(?:pub(?:\(crate\))? )?(?:extern "C" )?(fn|struct|enum|const|impl|mod)(?:<[^>]*>)?'
+    r' (?:\S+(?:<[^{]*>)? for )?(\w+)'
 )
 RT_MEMBER = re.compile(r"^    (?:pub(?:\(crate\))? )?(\w+)(?::|,|\(| \{)")
+# The type whose methods follow, and nothing where its block ends.
+RT_OWNER = re.compile(r"^(?:impl(?:<[^>]*>)? (?:\S+(?:<[^{]*>)? for )?(\w+)|\})", re.M)
 RT_SIGNATURE = re.compile(r"\bfn (\w+)(?:<[^>]*>)?\s*\(([^)]*)\)")
 
 
@@ -123,9 +126,10 @@ def index_rattle(prefix: str, text: str, index: Index) -> None:
                 inside, kind = item.group(3), item.group(2)
         elif member:
             index.rattle.add(f"{prefix}::{inside}::{member.group(1)}")
-    for name, parameters in RT_SIGNATURE.findall(text):
-        taken = [p.split(":")[0].replace("mut ", "").strip() for p in parameters.split(",")]
-        index.parameters[f"{prefix}::{name}"] = [p for p in taken if p]
+    for found in RT_SIGNATURE.finditer(text):
+        taken = [p.split(":")[0].replace("mut ", "").strip() for p in found.group(2).split(",")]
+        owners = [prefix, *RT_OWNER.findall(text, 0, found.start())[-1:]]
+        index.parameters["::".join(filter(None, [*owners, found.group(1)]))] = [p for p in taken if p]
 
 
 def index_crate(crate: str, index: Index) -> None:

@@ -9,7 +9,7 @@ from .pages import Document, anchors, column, commands, link_leads, links, other
 
 KNOWN = [
     "iscc/refusal_number", "header/*", "Demand1.count_over", "decode-encode", "accept", "HeaderTests", "Table.entry",
-    "base32::reader::read", "base32::reader::read(text, out)", "MainType::from_number", "code::write_list",
+    "base32::reader::read", "base32::reader::read(text, out)", "MainType::try_from", "Register::from_bytes", "code::write_list",
     "iscc/specs/Meaning.antt", "Doors.antt", "intake.tsv", "lines_NN.in", "tests/slips", "iscc_intake",
     "ISCC_TEXT_AREA", "--help", "RT_JOBS=1 rt ci", "compare intake", "rt check NAME", "55 00",
     "r ≡ header_read_as (read_header bytes)", "iscc:maagztfqttvizpjr", "GAAW2PRCRS5LNVZV",

@@ -17,6 +17,7 @@ OTHERS = set(
     RT_JOBS DESTDIR ISCC_LIBRARY LD_LIBRARY_PATH PKG_CONFIG_PATH PYTHONPATH str
     register.new register.old lending typed.txt --append --append-verify
     pread pwrite fdatasync fsync ftruncate rename
+    ? From Result Option copy_within
     """.split()
 ) | {"ISCC :", "proved / plain", "-C opt-level=3", "PRAGMA synchronous=FULL"}
 

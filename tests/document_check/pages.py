@@ -63,9 +63,10 @@ def open_document(path: str) -> Document:
     return Document(path, lines, prose, code)
 
 
-# Notes of past landings, and of the port, stay as they landed: they speak of their time, and names may be gone. A landing adds the
-# note before its own.
-PAST = {"docs/PORT.md", *(f"docs/landings/{name}.md" for name in ("ground", "friendly", *"abcdefgh", "halls"))}
+# Notes of past landings, of the port and of the design pass stay as they landed: they speak of their time, and names may be gone. A
+# landing adds the note before its own.
+LANDED = ("ground", "friendly", *"abcdefgh", "halls")
+PAST = {"docs/PORT.md", "docs/DESIGN-PASS.md", *(f"docs/landings/{name}.md" for name in LANDED)}
 
 
 def documents(index: Index) -> list[str]:

@@ -1,4 +1,5 @@
 -- No line is cut.
+use Rattle.iscc.specs.Refusals.{refusal_number}
 use Prim.Native.Nat.{ℕ, zero, suc, ◌+◌, ◌/◌, ◌%◌, ◌*◌, ◌^◌, ◌≤◌, ◌<◌}
 use mathlib.Core.Path.{◌≡◌}
 use mathlib.Core.Bool.{Bool, true, false, cond}
@@ -71,4 +72,4 @@ length-counts ns h = simp length-append (omega (arith, ten 0, ten 1, ten 2, ten 
 
 pub length-refused : (q : Refusal) → length (refused_line q) ≤ 200
 unfolding refused_line
-length-refused q = simp length-append (omega (arith, length-decimal q.number, length-sentence q.number))
+length-refused q = simp length-append (omega (arith, length-decimal (refusal_number q), length-sentence (refusal_number q)))

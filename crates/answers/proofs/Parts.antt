@@ -1,63 +1,42 @@
 -- A line that is made part by part, and cut at 200 bytes.
-use Prim.Native.Nat.{ℕ, zero, suc, ◌+◌, ◌≤◌, ◌<◌, min}
+use Prim.Native.Nat.{ℕ, zero, suc, ◌+◌, ◌-◌, ◌≤◌, min}
 use mathlib.Core.Path.{◌≡◌, refl, sym, ◌∙◌, ap, subst}
-use mathlib.Core.List.{List, [], ◌∷◌, ◌++◌, append_assoc, append-nil}
+use mathlib.Core.List.{List, [], ◌∷◌, ◌++◌, append_assoc}
 use native.Mathlib.Omega.{arith}
-use native.Mathlib.Numerals.{add-one}
-use lib.ListN.{length, get_or, take, drop, set, length-take, length-set, take-append-drop}
-use lib.Seq.{take-append_seam, length-take-le, take_all, take_at, take-suc, take-suc-set}
+use lib.ListN.{length, take, drop, length-append, take-append-drop}
+use lib.Seq.{length-take-le, take_all, take_at}
+use Rattle.std.proofs.Common.{inl, inr}
+use Rattle.std.proofs.lemmas.Bool.{cases_lt}
 
--- ---- a part, copied byte by byte behind the first n₀ bytes of b₀
+-- ---- a part behind the first n bytes of b, as far as there is room
 
-pub record Copied (b₀ part : List ℕ) (n₀ : ℕ) (b : List ℕ) (n i : ℕ) : Type 0 where
-  pub passed : i ≤ length part
-  pub room : n ≤ 200
-  pub size : length b ≡ 200
-  pub is : take n b ≡ take n₀ b₀ ++ take i part
+module _ (b part x : List ℕ) (n count : ℕ) (size : length b ≡ 200) (room : n ≤ 200) (c : count ≡ min (length part) (200 - n)) (is : x ≡ take count part) where
+  length-start : length (take n b) ≡ n
+  length-start = length-take-le n b (omega arith)
 
-pub copied_none : (b₀ part : List ℕ) (n₀ : ℕ) → length b₀ ≡ 200 → n₀ ≤ 200 → Copied b₀ part n₀ b₀ n₀ 0
-copied_none b₀ part n₀ l h = record { passed = omega arith; room = h; size = l; is = sym (append-nil (take n₀ b₀)) }
+  length-put : length (take n b ++ x) ≡ n + count
+  length-put = length-append (take n b) x ∙ (let l : length x ≡ count = ap length is ∙ length-take-le count part (omega (arith, c)) in omega (arith, length-start))
 
-pub copied_next : (b₀ part : List ℕ) (n₀ : ℕ) (b : List ℕ) (n i : ℕ) → Copied b₀ part n₀ b n i → n < 200 → i < length part
-    → Copied b₀ part n₀ (set b n (get_or part i 0)) (n + 1) (i + 1)
-copied_next b₀ part n₀ b n i v h l =
-    let s : length b ≡ 200 = v.size in
-    record {
-      passed = omega arith;
-      room = omega arith;
-      size = length-set b n (get_or part i 0) ∙ s;
-      is =
-          rw (add-one n, add-one i)
-          (take-suc-set b n (get_or part i 0) (omega arith)
-          ∙ ap (λ (p : List ℕ). p ++ (get_or part i 0 ∷ [])) v.is
-          ∙ append_assoc (take n₀ b₀) (take i part) (get_or part i 0 ∷ [])
-          ∙ ap (λ (p : List ℕ). take n₀ b₀ ++ p) (sym (take-suc part i 0 l)));
-    }
+  all-put : length part ≤ 200 - n → take n b ++ x ≡ take 200 (take n b ++ part)
+  all-put h =
+      let e : x ≡ part = is ∙ take_all count part (omega (arith, c)) in
+      rw e (sym (take_all 200 (take n b ++ part) (simp length-append (omega (arith, length-start)))))
 
--- all of it, or as much as there is room for
-module _ (b₀ part : List ℕ) (n₀ : ℕ) (b : List ℕ) (n i : ℕ) (v : Copied b₀ part n₀ b n i) (t : List ℕ) (e : take n₀ b₀ ≡ t) where
-  pub copied_all : length part ≤ i → (take n b ≡ take 200 (t ++ part)) × (n ≤ 200)
-  copied_all h =
-      let r : n ≤ 200 = v.room in
-      let l : length (take n b) ≤ 200 = simp length-take (omega arith) in
-      let k : take n b ≡ t ++ part = v.is ∙ rw (e, take_all i part h) in
-      (sym (ap (take 200) (sym k) ∙ take_all 200 (take n b) l), r)
+  cut-put : 200 - n ≤ length part → take n b ++ x ≡ take 200 (take n b ++ part)
+  cut-put h =
+      let l : length (take n b ++ take count part) ≡ 200 = ap (λ (p : List ℕ). length (take n b ++ p)) (sym is) ∙ length-put ∙ omega (arith, c) in
+      ap (λ (p : List ℕ). take n b ++ p) is
+      ∙ sym (ap (λ (p : List ℕ). take 200 (take n b ++ p)) (sym (take-append-drop count part))
+      ∙ ap (take 200) (sym (append_assoc (take n b) (take count part) (drop count part)))
+      ∙ take_at (take n b ++ take count part) (drop count part) 200 l)
 
-  pub copied-full : n ≡ 200 → (take n b ≡ take 200 (t ++ part)) × (n ≤ 200)
-  copied-full h =
-      let s : length b ≡ 200 = v.size in
-      let k : take n b ≡ t ++ take i part = v.is ∙ rw e in
-      let l : length (t ++ take i part) ≡ 200 = ap length (sym k) ∙ length-take-le n b (omega arith) ∙ h in (
-        k ∙ sym (ap (λ (p : List ℕ). take 200 (t ++ p)) (sym (take-append-drop i part))
-            ∙ ap (take 200) (sym (append_assoc t (take i part) (drop i part))) ∙ take_at (t ++ take i part) (drop i part) 200 l),
-        omega arith,
-      )
-
--- a length over that of the area stands for all bytes
-pub cut-same : (b : List ℕ) (size n m : ℕ) → length b ≡ size → n ≡ min m size → take n b ≡ take m b
-cut-same b size n m l h =
-    let k : n ≡ length (take m b) = simp length-take (omega arith) in
-    rw k (ap (take (length (take m b))) (sym (take-append-drop m b)) ∙ take-append_seam (take m b) (drop m b))
+  pub pushed : (rest : List ℕ) → take (n + count) (take n b ++ (x ++ rest)) ≡ take 200 (take n b ++ part)
+  pushed rest =
+      ap (take (n + count)) (sym (append_assoc (take n b) x rest)) ∙ take_at (take n b ++ x) rest (n + count) length-put
+      ∙ elim (cases_lt (length part) (200 - n)) [
+        | inl h ↦ all-put (omega arith)
+        | inr h ↦ cut-put h
+      ]
 
 -- ---- parts in a row: cut at each, or once
 
@@ -84,9 +63,13 @@ put_same {r₀} {r} {p'} {q} {s} p e f b = subst (λ (t : List ℕ). Behind r₀
 pub put_two : (r₀ p q : List ℕ) {r s : List ℕ} → r ≡ take 200 (r₀ ++ p) → s ≡ take 200 (r ++ q) → s ≡ take 200 (r₀ ++ (p ++ q))
 put_two r₀ p q e f = (put_then {r₀ = r₀} p e (put_last q f)).is
 
--- behind a text, with room for all of it
+-- behind a text
+pub put_on : {r t p s : List ℕ} → r ≡ t → Behind r p s → s ≡ take 200 (t ++ p)
+put_on {r} {t} {p} {s} e b = b.is ∙ ap (λ (u : List ℕ). take 200 (u ++ p)) e
+
+-- and with room for all of it
 pub put_all : {r t p s : List ℕ} → r ≡ t → Behind r p s → length (t ++ p) ≤ 200 → s ≡ t ++ p
-put_all {r} {t} {p} {s} e b l = b.is ∙ ap (λ (u : List ℕ). take 200 (u ++ p)) e ∙ take_all 200 (t ++ p) l
+put_all {r} {t} {p} {s} e b l = put_on e b ∙ take_all 200 (t ++ p) l
 
 -- two parts put at once
 pub put_both : {r₀ r q s : List ℕ} (p p' : List ℕ) → r ≡ take 200 (r₀ ++ (p ++ p')) → Behind r q s → Behind r₀ (p ++ (p' ++ q)) s

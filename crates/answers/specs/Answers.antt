@@ -1,14 +1,10 @@
 -- The lines that the programs answer, without the LF behind them.
-use Rattle.std.specs.Prelude.{ℕ, zero, suc, ◌+◌, ◌/◌, ◌%◌, cond, List, [], ◌∷◌, ◌++◌, take, get_or, ltb}
+use Rattle.iscc.specs.Refusals.{refusal_number}
+use Rattle.std.specs.Prelude.{ℕ, zero, suc, ◌+◌, ◌/◌, ◌%◌, cond, List, [], ◌∷◌, ◌++◌, get_or, ltb}
 use Rattle.iscc.specs.Answer.{Answer, accept, refuse}
 use Rattle.iscc.specs.Refusals.{Refusal}
 use Rattle.iscc.specs.Ascii.{ascii}
 use Rattle.answers.specs.Sentences.{sentence}
-use Rattle.answers.specs.declared.line.Line.{Line}
-
--- a line by value is its first bytes
-abbrev pub text_in : Line → List ℕ
-text_in l = take l.length l.bytes
 
 -- a number in decimal, with no more digits than it needs: twenty are enough for 64 bits
 unfoldable pub decimal_up_to : ℕ → ℕ → List ℕ
@@ -50,4 +46,4 @@ counts_line ns =
 -- ---- refusals: "the number and the words"
 
 unfoldable pub refused_line : Refusal → List ℕ
-refused_line q = ascii "refused " ++ (in_decimal q.number ++ (ascii ": " ++ sentence q.number))
+refused_line q = ascii "refused " ++ (in_decimal (refusal_number q) ++ (ascii ": " ++ sentence (refusal_number q)))

@@ -1,70 +1,60 @@
-// A line to be written, by value: it is made part by part.
-ghost use Rattle.std.specs.Prelude.{◌≡◌, [], ◌++◌, ◌≤◌, min, take};
-ghost use Rattle.answers.specs.Answers.{text_in, in_decimal};
+// A line to be written, made part by part.
+ghost use Rattle.std.specs.Prelude.{◌≡◌, ℕ, List, [], ◌++◌, ◌≤◌, length, take};
+ghost use Rattle.answers.specs.Answers.{in_decimal};
+ghost use Rattle.answers.specs.declared.line.TheConstants.{LONGEST_LINE};
+
+use itoa::Buffer;
+use std::marker::Model;
 
 // The longest line, in bytes.
 pub const LONGEST_LINE: usize = 200;
 
-#[derive(Clone, Copy)]
+// A part that has no room behind the others is cut.
+#[derive(Drop)]
 pub struct Line {
-    pub bytes: [u8; 200],
-    pub length: usize,
+    bytes: [u8; LONGEST_LINE],
+    length: usize,
 }
 
-pub fn empty() -> Line
-    ensures { (text_in result ≡ []) × (result.length ≤ 200) }
-{
-    Line {
-        bytes: [0; 200],
-        length: 0,
-    }
+// Clauses see the line's bytes.
+impl Model for Line {
+    ghost Value = { List ℕ };
+
+    ghost view = { λ l. take l.length l.bytes };
+
+    ghost invariant = { λ l. l.length ≤ LONGEST_LINE };
 }
 
-// A line has at most 200 bytes, whatever its length says.
-fn kept(length: usize) -> usize
-    ensures { result ≡ min length 200 }
-{
-    if LONGEST_LINE < length {
-        return LONGEST_LINE;
-    }
-    length
-}
-
-// A part behind a line, as far as there is room.
-pub fn put(line: Line, part: &[u8]) -> Line
-    ensures { (text_in result ≡ take 200 (text_in line ++ part.now)) × (result.length ≤ 200) }
-{
-    let mut bytes = line.bytes;
-    let mut length = kept(line.length);
-    let mut i = 0;
-    while i < part.len() {
-        if length == LONGEST_LINE {
-            break;
-        }
-        bytes[length] = part[i];
-        length += 1;
-        i += 1;
-    }
-    Line {
-        bytes: bytes,
-        length: length,
-    }
-}
-
-// A number in decimal behind a line.
-pub fn put_number(line: Line, number: u64) -> Line
-    ensures { (text_in result ≡ take 200 (text_in line ++ in_decimal number)) × (result.length ≤ 200) }
-{
-    let mut digits = [0u8; 20];
-    let mut start = 20;
-    let mut rest = number;
-    loop {
-        start -= 1;
-        digits[start] = b'0' + (rest % 10) as u8;
-        rest /= 10;
-        if rest == 0 {
-            break;
+impl Line {
+    pub fn new() -> Self
+        ensures { result ≡ [] }
+    {
+        Line {
+            bytes: [0; LONGEST_LINE],
+            length: 0,
         }
     }
-    put(line, &digits[start..20])
+
+    pub fn as_bytes(&self) -> &[u8]
+        ensures value { result.now ≡ self.now }
+        ensures bound { length result.now ≤ LONGEST_LINE }
+    {
+        &self.bytes[..self.length]
+    }
+
+    pub fn push(&mut self, part: &[u8])
+        ensures { self.new ≡ take LONGEST_LINE (self.old ++ part.now) }
+    {
+        let start = self.length;
+        let count = part.len().min(LONGEST_LINE - start);
+        self.bytes[start..start + count].copy_from_slice(&part[..count]);
+        self.length = start + count;
+    }
+
+    // In decimal.
+    pub fn push_number(&mut self, number: u64)
+        ensures { self.new ≡ take LONGEST_LINE (self.old ++ in_decimal number) }
+    {
+        self.push(Buffer::new().format(number).as_bytes());
+    }
 }

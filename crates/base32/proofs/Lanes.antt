@@ -1,5 +1,5 @@
 -- Numbers whose digits are worked on all at once: masks, sums and multiples by digit, and neighbours joined.
-use Prim.Native.Nat.{ℕ, zero, suc, ◌+◌, ◌-◌, ◌*◌, ◌/◌, ◌%◌, ◌^◌, ◌≤◌, ◌<◌}
+use Prim.Native.Nat.{ℕ, suc, ◌+◌, ◌-◌, ◌*◌, ◌/◌, ◌%◌, ◌^◌, ◌≤◌, ◌<◌}
 use mathlib.Core.Path.{◌≡◌, refl, sym, ◌∙◌, ap, ap₂}
 use mathlib.Core.Bool.{Bool, true, not, ◌&&◌, ◌||◌}
 use mathlib.Core.List.{List, [], ◌∷◌, map}
@@ -8,15 +8,14 @@ use native.Mathlib.Omega.{arith}
 use lib.Arith.{digits_lt}
 use lib.Bits.{bit_and, and_block, and_mask, and_zero_r, and_le_r}
 use lib.Dec.{ltb, eqb}
-use lib.ListN.{length, take, drop, length-map, length-drop}
-use lib.Seq.{take-add, drop-drop, length-take-le}
+use lib.ListN.{length, length-map}
 use lib.Pow.{pow_pos, pow_mono, pow-add, shr_lt, shl-shr, high, low, split, ones_lt}
 use borrow.Author.Tests.{lt-ltb, eqb-true}
 use Rattle.iscc.specs.Alphabet.{upper, index_of, digit_in}
 use Rattle.iscc.specs.Base32.{base32}
 use Rattle.iscc.specs.Digits.{value, Below}
 use Rattle.iscc.proofs.Booleans.{both_true}
-use Rattle.iscc.proofs.Digits.{value-lt, value-append, below-take, below-drop}
+use Rattle.iscc.proofs.Digits.{value-lt}
 use Rattle.iscc.proofs.Table.{up_to, at}
 
 below-same : (b m : ℕ) (xs : List ℕ) → m < b → Below b (map (λ _. m) xs)
@@ -247,34 +246,3 @@ eight (a ∷ b ∷ c ∷ d ∷ e ∷ []) n k = absurd (omega (arith, n))
 eight (a ∷ b ∷ c ∷ d ∷ e ∷ f ∷ []) n k = absurd (omega (arith, n))
 eight (a ∷ b ∷ c ∷ d ∷ e ∷ f ∷ g ∷ []) n k = absurd (omega (arith, n))
 eight (a ∷ b ∷ c ∷ d ∷ e ∷ f ∷ g ∷ h ∷ i ∷ xs) n k = absurd (omega (arith, n))
-
--- ---- eight characters of a text
-
-map-part : (f : ℕ → ℕ) (n k : ℕ) (t : List ℕ) → take n (drop k (map f t)) ≡ map f (take n (drop k t))
-map-part f zero zero t = refl
-map-part f (suc n) zero [] = refl
-map-part f (suc n) zero (c ∷ t) = ap (λ (l : List ℕ). f c ∷ l) (map-part f n zero t)
-map-part f n (suc k) (c ∷ t) = map-part f n k t
-map-part f zero (suc k) [] = refl
-map-part f (suc n) (suc k) [] = refl
-
-pub two-fours : (t : List ℕ) (i x y : ℕ) → i + 8 ≤ length t → x ≡ value 8 (take 4 (drop i t)) → y ≡ value 8 (take 4 (drop (i + 4) t)) →
-    x * 4294967296 + y ≡ value 8 (take 8 (drop i t))
-two-fours t i x y l p q =
-    let n : length (take 4 (drop (i + 4) t)) ≡ 4 = length-take-le 4 (drop (i + 4) t) (omega (arith, length-drop (i + 4) t)) in
-    sym (ap (value 8) (take-add 4 4 (drop i t) ∙ rw (drop-drop 4 i t)) ∙ value-append 8 (take 4 (drop i t)) (take 4 (drop (i + 4) t)) ∙ rw (n, ← p, ← q))
-
-module _ (t : List ℕ) (i w : ℕ) (l : i + 8 ≤ length t) (d : Below 32 (map (digit_in base32) t)) where
-  part_length : length (take 8 (drop i t)) ≡ 8
-  part_length = length-take-le 8 (drop i t) (omega (arith, length-drop i t))
-
-  part-digits : Below 32 (map (digit_in base32) (take 8 (drop i t)))
-  part-digits = rw (← map-part (digit_in base32) 8 i t) (below-take 32 8 (drop i (map (digit_in base32) t)) (below-drop 32 i (map (digit_in base32) t) d))
-
-  pub digit-bytes-at : Below 256 t → w ≡ value 8 (take 8 (drop i t)) → DigitBytes w (value 8 (take 8 (drop i (map (digit_in base32) t))))
-  digit-bytes-at b e =
-      rw (e, map-part (digit_in base32) 8 i t) (digit-bytes (take 8 (drop i t)) part_length (below-take 256 8 (drop i t) (below-drop 256 i t b)) part-digits)
-
-  pub eight-at : w ≡ value 8 (take 8 (drop i (map (digit_in base32) t))) → Eight w (value 5 (take 8 (drop i (map (digit_in base32) t))))
-  eight-at e =
-      rw (e, map-part (digit_in base32) 8 i t) (eight (map (digit_in base32) (take 8 (drop i t))) (length-map (take 8 (drop i t)) (digit_in base32) ∙ part_length) part-digits)

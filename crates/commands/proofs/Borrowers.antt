@@ -1,32 +1,31 @@
 -- A borrower's digits, read from the left.
-use Prim.Native.Nat.{ℕ, ◌+◌, ◌*◌, ◌-◌, ◌^◌, ◌≤◌, ◌<◌}
+use Prim.Native.Nat.{ℕ, suc, ◌+◌, ◌*◌, ◌-◌, ◌^◌, ◌≤◌, ◌<◌}
 use mathlib.Core.Path.{◌≡◌, refl, sym, ◌∙◌}
-use mathlib.Core.Bool.{Bool, true, false, and-false}
+use mathlib.Core.Bool.{true, false, and-false}
 use mathlib.Core.List.{List, [], ◌∷◌}
 use native.Mathlib.Nat.{pow-succ', pow-le-pow_right}
 use native.Mathlib.Numerals.{add-one}
 use native.Mathlib.Omega.{arith}
 use lib.ListN.{length, get_or, drop, drop_of_length-le}
 use lib.Seq.{drop-cons}
-use lib.Dec.{ltb}
-use borrow.Author.Tests.{lt-leb, le-leb, lt-ltb, le-ltb}
+use lib.Dec.{eqb, ltb}
+use borrow.Author.Tests.{lt-leb, le-leb, lt-ltb, le-ltb, eqb-true}
+use Rattle.std.specs.Char.{is_ascii_digit}
+use Rattle.std.specs.Result.{result_ok}
+use Rattle.std.specs.Prelude.{Some, None, Result, Ok, Err, OkIff}
+use Rattle.std.proofs.lemmas.Bool.Decides.{nat_tests}
 use Rattle.iscc.specs.Lists.{every}
-use Rattle.iscc.proofs.Booleans.{true-false}
-use Rattle.commands.specs.Commands.{is_empty, is_digit, decimal_from, decimal_value, is_borrower}
+use Rattle.commands.specs.Commands.{is_empty, is_digit, decimal_from, decimal_value, is_borrower, borrower_of}
 
--- what the code tells of a word
-abbrev pub Told : List ℕ → Bool → ℕ → Type 0
-Told word is number = (is ≡ is_borrower word) × (is_borrower word ≡ true → number ≡ decimal_value word)
+none : (word : List ℕ) → is_borrower word ≡ false → None ≡ borrower_of word
+none word e = rw e
 
-none : (word : List ℕ) → is_borrower word ≡ false → Told word false 0
-none word e = (sym e, λ t. absurd (true-false t e))
-
-pub no-digits : (word : List ℕ) → length word ≡ 0 → Told word false 0
+pub no-digits : (word : List ℕ) → eqb (length word) 0 ≡ true → None ≡ borrower_of word
 unfolding is_borrower is_empty
 no-digits [] h = none [] refl
-no-digits (c ∷ cs) h = absurd (omega arith)
+no-digits (c ∷ cs) h = absurd (omega (arith, eqb-true (suc (length cs)) 0 h))
 
-pub many-digits : (word : List ℕ) → 10 < length word → Told word false 0
+pub many-digits : (word : List ℕ) → 10 < length word → None ≡ borrower_of word
 unfolding is_borrower
 many-digits word h = none word (rw (lt-leb (length word) 10 h) (simp and-false))
 
@@ -49,30 +48,32 @@ module _ (word : List ℕ) (value i : ℕ) (s : Reading word value i) where
       omega (arith, s.small, k)
 
   module _ (l : i < length word) where
-    bad : is_digit (get_or word i 0) ≡ false → Told word false 0
+    bad : is_digit (get_or word i 0) ≡ false → None ≡ borrower_of word
     unfolding is_borrower every
     bad e =
         let k : every is_digit word ≡ false = sym s.digits ∙ rw (drop-cons word i 0 l, e) in
         none word (rw k (simp and-false))
 
-    pub below-digits : get_or word i 0 < 48 → Told word false 0
+    pub bad-digit : is_ascii_digit (get_or word i 0) ≡ false → None ≡ borrower_of word
     unfolding is_digit
-    below-digits h = bad (rw (lt-leb 48 (get_or word i 0) h))
+    bad-digit e = bad e
 
-    pub above-digits : 57 < get_or word i 0 → Told word false 0
-    unfolding is_digit
-    above-digits h = bad (rw (lt-leb (get_or word i 0) 57 h) (simp and-false))
+    is-large : is_ascii_digit (get_or word i 0) ≡ true → 48 ≤ get_or word i 0
+    is-large e = grind (arith, nat_tests)
 
-    pub one_more : 48 ≤ get_or word i 0 → get_or word i 0 ≤ 57 → Reading word (value * 10 + (get_or word i 0 - 48)) (i + 1)
+    is_small : is_ascii_digit (get_or word i 0) ≡ true → get_or word i 0 ≤ 57
+    is_small e = grind (arith, nat_tests)
+
+    pub one_more : is_ascii_digit (get_or word i 0) ≡ true → Reading word (value * 10 + (get_or word i 0 - 48)) (i + 1)
     unfolding every is_digit decimal_from
-    one_more a b =
+    one_more e =
         let p : 10 ^ (i + 1) ≡ 10 * 10 ^ i = rw add-one (pow-succ' 10 i) in
         record {
           some = s.some;
           short = s.short;
           within = omega arith;
-          small = omega (arith, p, s.small);
-          digits = rw add-one (sym (rw (drop-cons word i 0 l, le-leb 48 (get_or word i 0) a, le-leb (get_or word i 0) 57 b)) ∙ s.digits);
+          small = omega (arith, p, s.small, is-large e, is_small e);
+          digits = rw add-one (sym (rw (drop-cons word i 0 l, e)) ∙ s.digits);
           value = rw add-one (sym (rw (drop-cons word i 0 l)) ∙ s.value);
         }
 
@@ -81,17 +82,22 @@ module _ (word : List ℕ) (value i : ℕ) (s : Reading word value i) where
     unfolding decimal_from
     value-is = sym (rw (drop_of_length-le word l)) ∙ s.value
 
-    pub too_large : 4294967295 < value → Told word false 0
+    too_large : 4294967295 < value → None ≡ borrower_of word
     unfolding is_borrower
     too_large h = none word (rw (le-ltb (decimal_value word) 4294967296 (omega (arith, value-is))) (simp and-false))
 
-    pub number_read : value ≤ 4294967295 → Told word true value
+    number_read : value ≤ 4294967295 → Some value ≡ borrower_of word
     unfolding is_borrower every is_empty
     number_read h =
         let d : every is_digit word ≡ true = sym s.digits ∙ rw (drop_of_length-le word l) in
         let n : ltb (decimal_value word) 4294967296 ≡ true = lt-ltb (decimal_value word) 4294967296 (omega (arith, value-is)) in
-        (rw (filled word s.some, le-leb (length word) 10 s.short, d, n), λ _. value-is)
+        rw (filled word s.some, le-leb (length word) 10 s.short, d, n, ← value-is)
       where
         filled : (cs : List ℕ) → (length cs ≡ 0 → ⊥) → is_empty cs ≡ false
         filled [] n = absurd (n refl)
         filled (c ∷ cs) n = refl
+
+    -- as `try_from` has it
+    pub borrower-read : {E : Type 0} (r : Result ℕ E) → OkIff r (value < 4294967296) value → result_ok r ≡ borrower_of word
+    borrower-read (Ok x) h = rw h.1 (number_read (omega (arith, h.0)))
+    borrower-read (Err e) h = too_large (omega (arith, h))

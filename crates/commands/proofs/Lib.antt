@@ -1,4 +1,4 @@
--- The laws that carry the definitions of commands to the code.
+-- The laws that the proofs of this crate's functions cite.
 pub mod Borrowers
 pub mod WordOffsets
 pub mod Reading

@@ -1,196 +1,118 @@
 -- What the code reads is the command that the line is.
-use Prim.Native.Nat.{ℕ, ◌-◌, ◌≤◌, ◌<◌}
-use mathlib.Core.Path.{◌≡◌, refl, sym, ◌∙◌, subst}
+use Prim.Native.Nat.{ℕ, ◌≤◌, ◌<◌}
+use mathlib.Core.Path.{◌≡◌, refl, sym, ◌∙◌, ap}
 use mathlib.Core.Bool.{Bool, true, false, cond, not, ◌&&◌}
-use mathlib.Core.List.{List}
-use native.Mathlib.Omega.{arith}
-use lib.ListN.{length, take, drop}
-use lib.Dec.{leb}
+use mathlib.Core.List.{List, [], ◌∷◌}
+use lib.ListN.{length}
+use lib.Dec.{eqb, leb}
 use borrow.Author.Tests.{le-leb, lt-leb}
+use Rattle.std.specs.Prelude.{Some, None, bytes_eq}
+use Rattle.std.proofs.lemmas.Slice.Eq.{bytes_eq-Decides}
 use Rattle.iscc.specs.Ascii.{ascii}
 use Rattle.iscc.specs.Lists.{same_bytes}
-use Rattle.loans.specs.Calls.{Call, issue, take_back, ask}
-use Rattle.commands.specs.Commands as commands
-use Rattle.commands.specs.Commands.{word_end, word, is_empty, is_borrower, issue_of, command_of}
-use Rattle.commands.specs.Representation.{fault_as, kind_as, typed_in, borrower_in, part_of}
-use Rattle.commands.specs.Reading.{Found, Reads, bare, faulty_as, with_text, one_as, issue_as, sheet_as, by_word_as, read_as}
-use Rattle.commands.specs.declared.command.Command.{Command}
-use Rattle.commands.specs.declared.command.Fault.{Fault}
-use Rattle.commands.specs.declared.command.Fault.TheVariants as faults
-use Rattle.commands.specs.declared.command.Kind.{Kind}
-use Rattle.commands.specs.declared.command.Kind.TheVariants as kinds
-use Rattle.commands.proofs.Borrowers.{Told}
-use Rattle.commands.proofs.WordOffsets.{word-ordered, word-within, no-word, is_none, is_some, behind, part-is}
+use Rattle.loans.specs.Calls.{take_back, ask}
+use Rattle.commands.specs.Commands.{Command, Fault, calls, faulty, word_end, word, is_empty, command_of}
+use Rattle.commands.specs.Commands.{long_line, no_command, unknown_command, return_words, ask_words}
+use Rattle.commands.specs.Reading.{next_word, behind_word, is_only, only_word, issue_behind, sheet_behind}
+use Rattle.commands.proofs.WordOffsets.{word-is, left-is, empty-is}
 
-module _ (line : List ℕ) where
-  is-faulty : (f : commands.Fault) → Reads line (commands.faulty f) (faulty_as (fault_as f))
-  is-faulty f = record { kind = refl; text = refl; ordered = omega arith; within = omega arith; borrower = refl }
+-- ---- the first word, as the code compares it
 
-  -- by the same test
-  either : (b : Bool) {j k : commands.Command} {q r : Command} → Reads line j q → Reads line k r → Reads line (cond b j k) (cond b q r)
-  either true x y = x
-  either false x y = y
+same-is : (xs ys : List ℕ) → bytes_eq xs ys ≡ same_bytes xs ys
+unfolding same_bytes
+same-is [] [] = refl
+same-is [] (y ∷ ys) = refl
+same-is (x ∷ xs) [] = refl
+same-is (x ∷ xs) (y ∷ ys) = ap (λ (b : Bool). eqb x y && b) (same-is xs ys)
 
-  module _ (offset : ℕ) (h : offset ≤ length line) where
-    next-within : word_end line offset ≤ length line
-    next-within = word-within line offset h
+is-word : (xs ys : List ℕ) → bytes_eq xs ys ≡ true → xs ≡ ys
+is-word xs ys e = (bytes_eq-Decides xs ys).0 e
 
-    -- one word from the offset on, two words
-    abbrev one : Bool
-    one = not (is_empty (word line offset)) && is_empty (word line (word_end line offset))
+-- against a name that is lent
+pub compared : (first lent name : List ℕ) {r b : Bool} → r ≡ bytes_eq first lent → lent ≡ name → r ≡ b → bytes_eq first name ≡ b
+compared first lent name e n t = sym (e ∙ ap (bytes_eq first) n) ∙ t
 
-    abbrev two : Bool
-    two = not (is_empty (word line (word_end line offset))) && is_empty (word line (word_end line (word_end line offset)))
+-- ---- the only word of what stands behind the first
 
-    is_one : (k : Kind) (c : Call) (f : commands.Fault) → Reads line (commands.calls c) (with_text k line offset 0)
-        → Reads line (cond one (commands.calls c) (commands.faulty f)) (one_as line offset k (fault_as f))
-    unfolding one_as
-    is_one k c f r = rw (no-word line offset h, no-word line (word_end line offset) next-within) (either one r (is-faulty f))
+module _ (f : List ℕ → Command) (q : Fault) (text : List ℕ) where
+  by_only : Command
+  by_only = cond (is_only text) (f (next_word text)) (faulty q)
 
-    is-return : Reads line (commands.calls (take_back (word line offset))) (with_text kinds.TakeBack line offset 0)
-    unfolding word
-    is-return = record { kind = refl; text = refl; ordered = word-ordered line offset h; within = next-within; borrower = refl }
+  only-read : (t : List ℕ) → Some t ≡ only_word text → f t ≡ cond (is_only text) (f (next_word text)) (faulty q)
+  only-read t = go (is_only text)
+    where
+      go : (b : Bool) → Some t ≡ cond b (Some (next_word text)) None → f t ≡ cond b (f (next_word text)) (faulty q)
+      go true e = let n : t ≡ next_word text = cc in ap f n
+      go false e = cc
 
-    is_ask : Reads line (commands.calls (ask (word line offset))) (with_text kinds.Ask line offset 0)
-    unfolding word
-    is_ask = record { kind = refl; text = refl; ordered = word-ordered line offset h; within = next-within; borrower = refl }
+  only-none : None ≡ only_word text → faulty q ≡ cond (is_only text) (f (next_word text)) (faulty q)
+  only-none = go (is_only text)
+    where
+      go : (b : Bool) → None ≡ cond b (Some (next_word text)) None → faulty q ≡ cond b (f (next_word text)) (faulty q)
+      go true e = cc
+      go false e = refl
 
-    is-issue : (b : ℕ) → Reads line (commands.calls (issue (word line offset) b)) (with_text kinds.Issue line offset b)
-    unfolding word
-    is-issue b = record { kind = refl; text = refl; ordered = word-ordered line offset h; within = next-within; borrower = refl }
+-- ---- the whole line, by its first word and what stands behind that
 
-    is-two :
-        Reads line (cond two (issue_of (word line offset) (word line (word_end line offset))) (commands.faulty commands.issue_words))
-        (issue_as line offset)
-    unfolding issue_as
-    is-two =
-        let third = word-within line (word_end line offset) next-within in
-        rw (no-word line (word_end line offset) next-within, no-word line (word_end line (word_end line offset)) third)
-        (either two
-        (either (is_borrower (word line (word_end line offset))) (is-issue _) (is-faulty commands.bad_borrower))
-        (is-faulty commands.issue_words))
+abbrev by_word : List ℕ → List ℕ → Command
+by_word first rest =
+    cond (is_empty first) (faulty no_command)
+    (cond (same_bytes first (ascii "issue")) (issue_behind rest)
+    (cond (same_bytes first (ascii "return")) (cond (is_only rest) (calls (take_back (next_word rest))) (faulty return_words))
+    (cond (same_bytes first (ascii "ask")) (cond (is_only rest) (calls (ask (next_word rest))) (faulty ask_words))
+    (cond (same_bytes first (ascii "sheet")) (sheet_behind rest)
+    (faulty unknown_command)))))
 
-    is-sheet : Reads line (cond (is_empty (word line offset)) commands.sheet (commands.faulty commands.sheet_words)) (sheet_as line offset)
-    unfolding sheet_as
-    is-sheet =
-        rw (no-word line offset h)
-        (either (is_empty (word line offset))
-        (record { kind = refl; text = refl; ordered = omega arith; within = omega arith; borrower = refl })
-        (is-faulty commands.sheet_words))
+abbrev by_length : List ℕ → Command → Command
+by_length line short = cond (not (leb (length line) 2048)) (faulty long_line) short
 
-  pub reads : Reads line (command_of line) (read_as line)
-  unfolding command_of read_as by_word_as
-  reads =
-      let first = word-within line 0 (omega arith) in
-      let is : List ℕ → Bool = same_bytes (word line 0) in
-      rw (no-word line 0 (omega arith))
-      (either (not (leb (length line) 2048)) (is-faulty commands.long_line)
-      (either (is_empty (word line 0)) (is-faulty commands.no_command)
-      (either (is (ascii "issue")) (is-two (word_end line 0) first)
-      (either (is (ascii "return")) (is_one (word_end line 0) first kinds.TakeBack _ commands.return_words (is-return (word_end line 0) first))
-      (either (is (ascii "ask")) (is_one (word_end line 0) first kinds.Ask _ commands.ask_words (is_ask (word_end line 0) first))
-      (either (is (ascii "sheet")) (is-sheet (word_end line 0) first) (is-faulty commands.unknown_command)))))))
+by-words : (line : List ℕ) → command_of line ≡ by_length line (by_word (next_word line) (behind_word line))
+unfolding command_of
+by-words line =
+    let first : ℕ = word_end line 0 in
+    let second : ℕ = word_end line first in
+    let a : word line first ≡ next_word (behind_word line) = word-is line first ∙ ap next_word (left-is line 0) in
+    let l = left-is line first ∙ ap behind_word (left-is line 0) in
+    let b : word line second ≡ next_word (behind_word (behind_word line)) = word-is line second ∙ ap next_word l in
+    let c : word line (word_end line second) ≡ next_word (behind_word (behind_word (behind_word line))) =
+    word-is line (word_end line second) ∙ ap next_word (left-is line second ∙ ap behind_word l) in
+    rw (c, b, a)
 
--- ---- the returns
+pub long-line : (line : List ℕ) → 2048 < length line → faulty long_line ≡ command_of line
+long-line line h = sym (by-words line ∙ rw (lt-leb (length line) 2048 h))
 
-module _ (line : List ℕ) (offset start end : ℕ) (w : Found line offset start end) where
-  module _ (k : Kind) (f : Fault) (r : Command) where
-    pub one-lacks : start ≡ end → r ≡ faulty_as f → r ≡ one_as line offset k f
-    unfolding one_as
-    one-lacks n e = e ∙ sym (rw (is_none w n))
+module _ (line first rest : List ℕ) (short : length line ≤ 2048) (w : first ≡ next_word line) (b : rest ≡ behind_word line) where
+  pub read-by : (c : Command) → c ≡ by_word first rest → c ≡ command_of line
+  read-by c e = e ∙ sym (by-words line ∙ rw (← w, ← b, le-leb (length line) 2048 short))
 
-    module _ (from to : ℕ) (v : Found line end from to) (some : start ≡ end → ⊥) where
-      pub one-many : (from ≡ to → ⊥) → r ≡ faulty_as f → r ≡ one_as line offset k f
-      unfolding one_as
-      one-many n e = e ∙ sym (rw (is_some w some, is_some (behind w v) n))
+  pub is-issue : bytes_eq first (ascii "issue") ≡ true → (c : Command) → c ≡ issue_behind rest → c ≡ command_of line
+  unfolding same_bytes is_empty
+  is-issue e c h = read-by c (rw (is-word first _ e) h)
 
-      pub one-read : from ≡ to → record { kind = k; start = start; end = end; borrower = 0 } ≡ one_as line offset k f
-      unfolding one_as
-      one-read n = rw (is_some w some, is_none (behind w v) n, w.starts, w.ends)
+  pub is-sheet : bytes_eq first (ascii "sheet") ≡ true → (c : Command) → c ≡ sheet_behind rest → c ≡ command_of line
+  unfolding same_bytes is_empty
+  is-sheet e c h = read-by c (rw (is-word first _ e) h)
 
-  pub sheet-many : (r : Command) → (start ≡ end → ⊥) → r ≡ faulty_as faults.SheetWords → r ≡ sheet_as line offset
-  unfolding sheet_as
-  sheet-many r n e = e ∙ sym (rw (is_some w n))
+  pub is-return : bytes_eq first (ascii "return") ≡ true → (t : List ℕ) → Some t ≡ only_word rest → calls (take_back t) ≡ command_of line
+  unfolding same_bytes is_empty
+  is-return e t h = read-by _ (rw (is-word first _ e) (only-read (λ u. calls (take_back u)) return_words rest t h))
 
-  pub sheet-read : start ≡ end → bare kinds.Sheet ≡ sheet_as line offset
-  unfolding sheet_as
-  sheet-read n = rw (is_none w n)
+  pub no_return : bytes_eq first (ascii "return") ≡ true → None ≡ only_word rest → faulty return_words ≡ command_of line
+  unfolding same_bytes is_empty
+  no_return e h = read-by _ (rw (is-word first _ e) (only-none (λ u. calls (take_back u)) return_words rest h))
 
-  module _ (from to : ℕ) (v : Found line end from to) where
-    pub issue-lacks : (r : Command) → from ≡ to → r ≡ faulty_as faults.IssueWords → r ≡ issue_as line offset
-    unfolding issue_as
-    issue-lacks r n e = e ∙ sym (rw (is_none (behind w v) n))
+  pub is_ask : bytes_eq first (ascii "ask") ≡ true → (t : List ℕ) → Some t ≡ only_word rest → calls (ask t) ≡ command_of line
+  unfolding same_bytes is_empty
+  is_ask e t h = read-by _ (rw (is-word first _ e) (only-read (λ u. calls (ask u)) ask_words rest t h))
 
-    module _ (last stop : ℕ) (u : Found line to last stop) (some : from ≡ to → ⊥) where
-      pub issue-many : (r : Command) → (last ≡ stop → ⊥) → r ≡ faulty_as faults.IssueWords → r ≡ issue_as line offset
-      unfolding issue_as
-      issue-many r n e = e ∙ sym (rw (is_some (behind w v) some, is_some (behind (behind w v) u) n))
+  pub no_ask : bytes_eq first (ascii "ask") ≡ true → None ≡ only_word rest → faulty ask_words ≡ command_of line
+  unfolding same_bytes is_empty
+  no_ask e h = read-by _ (rw (is-word first _ e) (only-none (λ u. calls (ask u)) ask_words rest h))
 
-      module _ (none : last ≡ stop) (is : Bool) (n : ℕ) (t : Told (take (to - from) (drop from line)) is n) where
-        told : Told (word line (word_end line offset)) is n
-        told = subst (λ (b : List ℕ). Told b is n) (part-is (behind w v)) t
+  pub no-command : eqb (length first) 0 ≡ true → faulty no_command ≡ command_of line
+  no-command e = read-by _ (rw (← empty-is first, e) refl)
 
-        pub issue-read : is ≡ true → record { kind = kinds.Issue; start = start; end = end; borrower = n } ≡ issue_as line offset
-        unfolding issue_as
-        issue-read e =
-            let b : is_borrower (word line (word_end line offset)) ≡ true = sym told.0 ∙ e in
-            rw (is_some (behind w v) some, is_none (behind (behind w v) u) none, b, w.starts, w.ends, told.1 b)
-
-        pub issue-other : (r : Command) → is ≡ false → r ≡ faulty_as faults.BadBorrower → r ≡ issue_as line offset
-        unfolding issue_as
-        issue-other r e q =
-            let b : is_borrower (word line (word_end line offset)) ≡ false = sym told.0 ∙ e in
-            q ∙ sym (rw (is_some (behind w v) some, is_none (behind (behind w v) u) none, b))
-
-module _ (line first : List ℕ) (offset : ℕ) (r : Command) (a : Bool) (p : a ≡ same_bytes first (ascii "issue")) where
-  pub by-issue : a ≡ true → r ≡ issue_as line offset → r ≡ by_word_as line first offset
-  unfolding by_word_as
-  by-issue t e = e ∙ sym (rw (sym p ∙ t))
-
-  module _ (n : a ≡ false) (b : Bool) (q : b ≡ same_bytes first (ascii "return")) where
-    pub by-return : b ≡ true → r ≡ one_as line offset kinds.TakeBack faults.ReturnWords → r ≡ by_word_as line first offset
-    unfolding by_word_as
-    by-return t e = e ∙ sym (rw (sym p ∙ n, sym q ∙ t))
-
-    module _ (m : b ≡ false) (c : Bool) (o : c ≡ same_bytes first (ascii "ask")) where
-      pub by-ask : c ≡ true → r ≡ one_as line offset kinds.Ask faults.AskWords → r ≡ by_word_as line first offset
-      unfolding by_word_as
-      by-ask t e = e ∙ sym (rw (sym p ∙ n, sym q ∙ m, sym o ∙ t))
-
-      module _ (l : c ≡ false) (d : Bool) (u : d ≡ same_bytes first (ascii "sheet")) where
-        pub by-sheet : d ≡ true → r ≡ sheet_as line offset → r ≡ by_word_as line first offset
-        unfolding by_word_as
-        by-sheet t e = e ∙ sym (rw (sym p ∙ n, sym q ∙ m, sym o ∙ l, sym u ∙ t))
-
-        pub by-none : d ≡ false → r ≡ faulty_as faults.UnknownCommand → r ≡ by_word_as line first offset
-        unfolding by_word_as
-        by-none t e = e ∙ sym (rw (sym p ∙ n, sym q ∙ m, sym o ∙ l, sym u ∙ t))
-
--- ---- the whole line
-
-module _ (line : List ℕ) (r : Command) where
-  -- as the contract has it
-  abbrev pub Answered : Type 0
-  Answered =
-      (r.kind ≡ kind_as (command_of line))
-      × (((part_of line r.start r.end ≡ typed_in (command_of line)) × (r.start ≤ r.end) × (r.end ≤ length line))
-      × (r.borrower ≡ borrower_in (command_of line)))
-
-  answered : r ≡ read_as line → Answered
-  answered e =
-      let x : Reads line (command_of line) r = subst (Reads line (command_of line)) (sym e) (reads line) in
-      (x.kind, ((x.text, x.ordered, x.within), x.borrower))
-
-  pub long-line : 2048 < length line → r ≡ faulty_as faults.LongLine → Answered
-  unfolding read_as
-  long-line h e = answered (e ∙ sym (rw (lt-leb (length line) 2048 h)))
-
-  module _ (short : length line ≤ 2048) (start end : ℕ) (w : Found line 0 start end) where
-    pub no-command : start ≡ end → r ≡ faulty_as faults.NoCommand → Answered
-    unfolding read_as
-    no-command n e = answered (e ∙ sym (rw (le-leb (length line) 2048 short, is_none w n)))
-
-    pub by_word : (start ≡ end → ⊥) → r ≡ by_word_as line (take (end - start) (drop start line)) end → Answered
-    unfolding read_as
-    by_word n e =
-        answered (e ∙ rw (part-is w, w.ends) (sym (rw (le-leb (length line) 2048 short, is_some w n))))
+  pub no-other : eqb (length first) 0 ≡ false → bytes_eq first (ascii "issue") ≡ false → bytes_eq first (ascii "return") ≡ false
+      → bytes_eq first (ascii "ask") ≡ false → bytes_eq first (ascii "sheet") ≡ false → faulty unknown_command ≡ command_of line
+  no-other e i r a s =
+      read-by _ (rw (← empty-is first, e, ← same-is first (ascii "issue"), i, ← same-is first (ascii "return"), r, ← same-is first (ascii "ask"), a, ← same-is first (ascii "sheet"), s) refl)

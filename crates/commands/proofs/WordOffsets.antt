@@ -1,18 +1,30 @@
--- Where a word stands in its line.
+-- The words of a line, one behind the other.
 use Prim.Native.Nat.{ℕ, suc, ◌+◌, ◌-◌, ◌≤◌}
-use mathlib.Core.Path.{◌≡◌, sym, ◌∙◌, ap, subst}
-use mathlib.Core.Bool.{Bool, true, false, cond}
+use mathlib.Core.Path.{◌≡◌, refl, sym, ◌∙◌, ap}
+use mathlib.Core.Bool.{Bool, true, false, cond, not}
 use mathlib.Core.List.{List, [], ◌∷◌}
 use native.Mathlib.Omega.{arith}
-use lib.ListN.{length, take, drop, length-drop}
-use lib.Seq.{length-take-le}
-use lib.Dec.{eqb}
-use borrow.Author.Tests.{eq-eqb, ne_eqb}
+use lib.ListN.{length, take, drop}
+use Rattle.std.proofs.lemmas.List.{drop-drop}
+use lib.Dec.{eqb, ltb}
+use borrow.Author.Tests.{ltb-false, ne_eqb}
+use Rattle.std.specs.Prelude.{Option, Some, None, unwrap_or}
+use Rattle.std.specs.List.{position_or_len}
+use Rattle.std.proofs.lemmas.List.Recursion.{is_position_or_len}
 use Rattle.iscc.specs.Lists.{first_not}
 use Rattle.iscc.specs.Doors.{is_blank}
-use Rattle.iscc.proofs.Parts.{rest-is}
 use Rattle.commands.specs.Commands.{not_blank, word_start, word_end, word, is_empty}
-use Rattle.commands.specs.Reading.{Found, no_word}
+use Rattle.commands.specs.Reading.{next_word, behind_word}
+
+-- ---- the first that fails, as `position` finds it
+
+first_not-is : (p q : ℕ → Bool) → ((c : ℕ) → q c ≡ not (p c)) → (xs : List ℕ) → first_not p xs ≡ position_or_len q xs
+unfolding first_not
+first_not-is p q e = is_position_or_len (first_not p) q refl (λ x xs. rw (e x) (go (p x) (first_not p xs)))
+  where
+    go : (b : Bool) (n : ℕ) → cond b (suc n) 0 ≡ cond (not b) 0 (1 + n)
+    go true n = omega arith
+    go false n = refl
 
 first-within : (p : ℕ → Bool) (xs : List ℕ) → first_not p xs ≤ length xs
 unfolding first_not
@@ -23,59 +35,64 @@ first-within p (x ∷ xs) = go (p x) (first-within p xs)
     go true h = omega arith
     go false h = omega arith
 
-module _ (line : List ℕ) (offset : ℕ) (h : offset ≤ length line) where
-  pub word-ordered : word_start line offset ≤ word_end line offset
-  unfolding word_end
-  word-ordered = omega arith
+pub unless : (c : ℕ) → is_blank c ≡ not (not_blank c)
+unless c = go (is_blank c)
+  where
+    go : (b : Bool) → b ≡ not (not b)
+    go true = refl
+    go false = refl
 
-  pub word-within : word_end line offset ≤ length line
-  unfolding word_start word_end
-  word-within =
-      let a = first-within is_blank (drop offset line) in
-      let b = first-within not_blank (drop (offset + first_not is_blank (drop offset line)) line) in
-      omega (arith, a, b, length-drop offset line, length-drop (offset + first_not is_blank (drop offset line)) line)
+pub first-failing : (p q : ℕ → Bool) → ((c : ℕ) → q c ≡ not (p c)) → (xs : List ℕ) (r : Option ℕ)
+    → r ≡ cond (ltb (position_or_len q xs) (length xs)) (Some (position_or_len q xs)) None → unwrap_or r (length xs) ≡ first_not p xs
+first-failing p q e xs r f = rw (f, first_not-is p q e xs) (go (ltb (position_or_len q xs) (length xs)) refl)
+  where
+    go : (b : Bool) → ltb (position_or_len q xs) (length xs) ≡ b
+        → unwrap_or (cond b (Some (position_or_len q xs)) None) (length xs) ≡ position_or_len q xs
+    go true k = refl
+    go false k = omega (arith, ltb-false (position_or_len q xs) (length xs) k, first-within p xs, first_not-is p q e xs)
 
-  -- a word of no bytes is none
-  pub no-word : no_word line offset ≡ is_empty (word line offset)
-  unfolding word is_empty
-  no-word =
-      let n : length (word line offset) ≡ word_end line offset - word_start line offset =
-      length-take-le (word_end line offset - word_start line offset) (drop (word_start line offset) line)
-      (omega (arith, word-within, length-drop (word_start line offset) line)) in
-      go (word_start line offset) (word_end line offset) word-ordered (word line offset) n
-    where
-      go : (a b : ℕ) → a ≤ b → (w : List ℕ) → length w ≡ b - a → eqb a b ≡ is_empty w
-      go a b l [] n = eq-eqb a b (omega (arith, n))
-      go a b l (c ∷ cs) n = ne_eqb a b (λ e. omega (arith, n, e))
+-- ---- a word of a line, by what is left of the line
 
-  -- as the code finds it: the blanks from the offset on, then the bytes up to the next blank
-  module _ (m n : ℕ) where
-    abbrev from : ℕ → List ℕ
-    from k = take (length line - k) (drop k line)
+module _ (line : List ℕ) (offset start end : ℕ) (s : start ≡ first_not is_blank (drop offset line))
+    (e : end ≡ first_not not_blank (drop start (drop offset line))) where
+  begins : drop start (drop offset line) ≡ drop (offset + start) line
+  begins = drop-drop start offset line
 
-    pub next_word : (m ≡ first_not is_blank (from offset)) × (m ≤ length (from offset))
-        → (n ≡ first_not not_blank (from (offset + m))) × (n ≤ length (from (offset + m))) → Found line offset (offset + m) (offset + m + n)
-    unfolding word_start word_end
-    next_word a b =
-        let s : offset + m ≡ word_start line offset = ap (λ (k : ℕ). offset + k) (a.0 ∙ ap (first_not is_blank) (rest-is line offset)) in
-        let e : offset + m + n ≡ word_end line offset =
-        ap (λ (k : ℕ). offset + m + k) (b.0 ∙ ap (first_not not_blank) (rest-is line (offset + m)))
-        ∙ ap (λ (k : ℕ). k + first_not not_blank (drop k line)) s in
-        record { starts = s; ends = e; ordered = omega arith; within = omega (arith, e, word-within) }
+  ends : end ≡ first_not not_blank (drop (offset + start) line)
+  ends = e ∙ ap (first_not not_blank) begins
 
--- ---- whether a word is there, as the code tests it
+  pub word-by : take end (drop start (drop offset line)) ≡ word line offset
+  unfolding word word_end word_start
+  word-by =
+      let k : offset + start + first_not not_blank (drop (offset + start) line) - (offset + start) ≡ end = omega (arith, ends) in
+      rw (← s, k, begins)
 
-module _ {line : List ℕ} {offset start end : ℕ} (w : Found line offset start end) where
-  pub is_none : start ≡ end → no_word line offset ≡ true
-  is_none e = eq-eqb (word_start line offset) (word_end line offset) (sym w.starts ∙ e ∙ w.ends)
+  pub end-by : offset + start + end ≡ word_end line offset
+  unfolding word_end word_start
+  end-by = rw (← s, ← ends)
 
-  pub is_some : (start ≡ end → ⊥) → no_word line offset ≡ false
-  is_some n = ne_eqb (word_start line offset) (word_end line offset) (λ e. n (w.starts ∙ e ∙ sym w.ends))
+  pub behind-by : drop end (drop start (drop offset line)) ≡ drop (word_end line offset) line
+  behind-by = rw (← end-by) (ap (drop end) begins ∙ drop-drop end (offset + start) line)
 
-  -- the word behind it
-  pub behind : {from to : ℕ} → Found line end from to → Found line (word_end line offset) from to
-  behind {from} {to} v = subst (λ (k : ℕ). Found line k from to) w.ends v
+module _ (line : List ℕ) (offset : ℕ) where
+  abbrev start : ℕ
+  start = first_not is_blank (drop offset line)
 
-  pub part-is : take (end - start) (drop start line) ≡ word line offset
-  unfolding word
-  part-is = rw (w.starts, w.ends)
+  abbrev end : ℕ
+  end = first_not not_blank (drop start (drop offset line))
+
+  pub word-is : word line offset ≡ next_word (drop offset line)
+  word-is = sym (word-by line offset start end refl refl) ∙ word-by (drop offset line) 0 start end refl refl
+
+  pub left-is : drop (word_end line offset) line ≡ behind_word (drop offset line)
+  unfolding behind_word
+  left-is =
+      let a : offset + (start + end) ≡ word_end line offset = omega (arith, end-by line offset start end refl refl) in
+      let b : start + end ≡ word_end (drop offset line) 0 = omega (arith, end-by (drop offset line) 0 start end refl refl) in
+      rw (← a, ← b) (sym (drop-drop (start + end) offset line))
+
+-- a word of no bytes is none
+pub empty-is : (w : List ℕ) → eqb (length w) 0 ≡ is_empty w
+unfolding is_empty
+empty-is [] = refl
+empty-is (c ∷ cs) = ne_eqb (suc (length cs)) 0 (λ e. omega (arith, e))

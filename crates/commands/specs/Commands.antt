@@ -1,5 +1,5 @@
 -- A command line: words with blanks between them. Which command it is, or why it is none.
-use Rattle.std.specs.Prelude.{ℕ, ◌+◌, ◌-◌, ◌*◌, Bool, true, false, cond, not, ◌&&◌, List, [], ◌∷◌, length, take, drop, leb, ltb}
+use Rattle.std.specs.Prelude.{ℕ, ◌+◌, ◌-◌, ◌*◌, Bool, true, false, cond, not, Option, None, Some, ◌&&◌, List, [], ◌∷◌, length, take, drop, leb, ltb}
 use Rattle.iscc.specs.Ascii.{ascii}
 use Rattle.iscc.specs.Lists.{every, first_not, same_bytes}
 use Rattle.iscc.specs.Doors.{is_blank}
@@ -39,6 +39,9 @@ decimal_value cs = decimal_from 0 cs
 
 unfoldable pub is_borrower : List ℕ → Bool
 is_borrower cs = not (is_empty cs) && leb (length cs) 10 && every is_digit cs && ltb (decimal_value cs) 4294967296
+
+abbrev pub borrower_of : List ℕ → Option ℕ
+borrower_of cs = cond (is_borrower cs) (Some (decimal_value cs)) None
 
 -- ---- the command
 

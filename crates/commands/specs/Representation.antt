@@ -1,21 +1,12 @@
 -- The definitions' commands in the code.
-use Rattle.std.specs.Prelude.{ℕ, ◌-◌, List, [], take, drop}
+use Rattle.std.specs.Prelude.{ℕ, Option, List, Result, Ok, Err, option_map}
+use Rattle.std.specs.Borrow.{Bor}
 use Rattle.loans.specs.Calls.{issue, take_back, ask}
 use Rattle.commands.specs.Commands as commands
+use Rattle.commands.specs.declared.command.Command.{Command}
+use Rattle.commands.specs.declared.command.Command.TheVariants as kinds
 use Rattle.commands.specs.declared.command.Fault.{Fault}
 use Rattle.commands.specs.declared.command.Fault.TheVariants as faults
-use Rattle.commands.specs.declared.command.Kind.{Kind}
-use Rattle.commands.specs.declared.command.Kind.TheVariants as kinds
-
-abbrev pub fault_as : commands.Fault → Fault
-fault_as commands.long_line = faults.LongLine
-fault_as commands.no_command = faults.NoCommand
-fault_as commands.unknown_command = faults.UnknownCommand
-fault_as commands.issue_words = faults.IssueWords
-fault_as commands.return_words = faults.ReturnWords
-fault_as commands.ask_words = faults.AskWords
-fault_as commands.sheet_words = faults.SheetWords
-fault_as commands.bad_borrower = faults.BadBorrower
 
 abbrev pub fault_in : Fault → commands.Fault
 fault_in faults.LongLine = commands.long_line
@@ -27,28 +18,17 @@ fault_in faults.AskWords = commands.ask_words
 fault_in faults.SheetWords = commands.sheet_words
 fault_in faults.BadBorrower = commands.bad_borrower
 
-abbrev pub kind_as : commands.Command → Kind
-kind_as (commands.calls (issue t b)) = kinds.Issue
-kind_as (commands.calls (take_back t)) = kinds.TakeBack
-kind_as (commands.calls (ask t)) = kinds.Ask
-kind_as commands.sheet = kinds.Sheet
-kind_as (commands.faulty f) = kinds.Faulty (fault_as f)
+abbrev pub command_with : Command → commands.Command
+command_with (kinds.Issue text borrower) = commands.calls (issue text.now borrower)
+command_with (kinds.Return text) = commands.calls (take_back text.now)
+command_with (kinds.Ask text) = commands.calls (ask text.now)
+command_with kinds.Sheet = commands.sheet
 
--- the text that a command has, and its borrower
-abbrev pub typed_in : commands.Command → List ℕ
-typed_in (commands.calls (issue t b)) = t
-typed_in (commands.calls (take_back t)) = t
-typed_in (commands.calls (ask t)) = t
-typed_in commands.sheet = []
-typed_in (commands.faulty f) = []
+-- what was read: a command, or why it is none
+abbrev pub command_in : Result Command Fault → commands.Command
+command_in (Ok c) = command_with c
+command_in (Err f) = commands.faulty (fault_in f)
 
-abbrev pub borrower_in : commands.Command → ℕ
-borrower_in (commands.calls (issue t b)) = b
-borrower_in (commands.calls (take_back t)) = 0
-borrower_in (commands.calls (ask t)) = 0
-borrower_in commands.sheet = 0
-borrower_in (commands.faulty f) = 0
-
--- a part of a line, from an offset up to another
-abbrev pub part_of : List ℕ → ℕ → ℕ → List ℕ
-part_of line start end = take (end - start) (drop start line)
+-- a word that was lent
+abbrev pub word_in : Option (Bor (List ℕ)) → Option (List ℕ)
+word_in w = option_map (λ (b : Bor (List ℕ)). b.now) w

@@ -1,110 +1,40 @@
 // The words of a line, and a borrower's number.
-ghost use Rattle.std.specs.Prelude.{◌≡◌, true, ◌≤◌, length};
-ghost use Rattle.iscc.specs.Lists.{first_not};
-ghost use Rattle.iscc.specs.Doors.{is_blank};
-ghost use Rattle.commands.specs.Commands.{not_blank, is_borrower, decimal_value};
-ghost use Rattle.commands.specs.Reading.{Found};
+ghost use Rattle.std.specs.Prelude.{◌≡◌};
+ghost use Rattle.commands.specs.Commands.{borrower_of};
+ghost use Rattle.commands.specs.Reading.{next_word, behind_word};
 
-// Where the next word starts and ends. It is empty where no word is left.
-#[derive(Clone, Copy)]
-pub(crate) struct Word {
-    pub(crate) start: usize,
-    pub(crate) end: usize,
+use octets::blank::is_blank;
+
+// The first word of a text, empty where it has none, and what stands behind that word.
+pub(crate) fn next(text: &[u8]) -> (&[u8], &[u8])
+    ensures word { result.0.now ≡ next_word text.now }
+    ensures behind { result.1.now ≡ behind_word text.now }
+{
+    let start = text
+        .iter()
+        .position(|&byte| !is_blank(byte))
+        .unwrap_or(text.len());
+    let (_, rest) = text.split_at(start);
+    let end = rest
+        .iter()
+        .position(|&byte| is_blank(byte))
+        .unwrap_or(rest.len());
+    rest.split_at(end)
 }
 
-// Space, tab, CR and LF.
-fn is_blank(byte: u8) -> bool
-    ensures { result ≡ is_blank byte }
+// The number that a word of one to ten digits stands for. std's parse takes a sign and any number of zeros, and a borrower has neither.
+pub(crate) fn read_borrower(word: &[u8]) -> Option<u32>
+    ensures { result ≡ borrower_of word.now }
 {
-    match byte {
-        32 => true,
-        9 => true,
-        13 => true,
-        10 => true,
-        _ => false,
+    if word.is_empty() || word.len() > 10 {
+        return None;
     }
-}
-
-// How many blanks stand at the start.
-fn blanks(text: &[u8]) -> usize
-    ensures { (result ≡ first_not is_blank text.now) × (result ≤ length text.now) }
-{
-    let mut i = 0;
-    while i < text.len() {
-        if is_blank(text[i]) {
-            i += 1;
-        } else {
-            return i;
+    let mut number: u64 = 0;
+    for &digit in word {
+        if !digit.is_ascii_digit() {
+            return None;
         }
+        number = number * 10 + u64::from(digit - b'0');
     }
-    i
-}
-
-// How many bytes stand before the first blank.
-fn letters(text: &[u8]) -> usize
-    ensures { (result ≡ first_not not_blank text.now) × (result ≤ length text.now) }
-{
-    let mut i = 0;
-    while i < text.len() {
-        if is_blank(text[i]) {
-            return i;
-        }
-        i += 1;
-    }
-    i
-}
-
-// The next word from an offset on.
-pub(crate) fn next(line: &[u8], offset: usize) -> Word
-    requires { offset ≤ length line.now }
-    ensures { Found line.now offset result.start result.end }
-{
-    let start = offset + blanks(&line[offset..]);
-    let end = start + letters(&line[start..]);
-    Word {
-        start: start,
-        end: end,
-    }
-}
-
-// Whether a word is a borrower, and its number; 0 where it is none.
-#[derive(Clone, Copy)]
-pub(crate) struct Borrower {
-    pub(crate) is: bool,
-    pub(crate) number: u32,
-}
-
-pub(crate) fn read_borrower(word: &[u8]) -> Borrower
-    ensures { (result.is ≡ is_borrower word.now) × (is_borrower word.now ≡ true → result.number ≡ decimal_value word.now) }
-{
-    let none = Borrower {
-        is: false,
-        number: 0,
-    };
-    if word.len() == 0 {
-        return none;
-    }
-    if word.len() > 10 {
-        return none;
-    }
-    let mut value: u64 = 0;
-    let mut i = 0;
-    while i < word.len() {
-        let digit = word[i];
-        if digit < b'0' {
-            return none;
-        }
-        if digit > b'9' {
-            return none;
-        }
-        value = value * 10 + (digit - b'0') as u64;
-        i += 1;
-    }
-    if value > u32::MAX as u64 {
-        return none;
-    }
-    Borrower {
-        is: true,
-        number: value as u32,
-    }
+    u32::try_from(number).ok()
 }

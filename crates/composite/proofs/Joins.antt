@@ -1,43 +1,42 @@
 -- What a list's verdict says of the bytes that are written.
+use Rattle.iscc.specs.Detailed.{with_detail}
+use Rattle.iscc.specs.declared.refusal.DetailedRefusal.{DetailedRefusal}
+use Rattle.std.specs.Prelude.{Ok, Err, Some, None, is_some}
 use Prim.Native.Nat.{ℕ, ◌≤◌, ◌<◌}
 use mathlib.Core.Path.{◌≡◌, refl, sym, ◌∙◌, ap, subst, subst⁻¹}
-use mathlib.Core.Bool.{Bool, true, false, cond}
+use mathlib.Core.Bool.{Bool, true, false, cond, ◌&&◌}
 use mathlib.Core.List.{List, [], ◌∷◌}
 use native.Mathlib.Nat.{not-suc-le-zero}
 use native.Mathlib.Omega.{arith}
 use lib.ListN.{length}
-use lib.Dec.{eqb}
 use Rattle.iscc.specs.Refusals.{Refusal, not_joinable, lacks_data_or_instance}
 use Rattle.iscc.specs.Answer.{Answer, accept, refuse, ◌>>=◌, ◌>>◌, ◌otherwise◌}
 use Rattle.iscc.specs.Digits.{Below}
 use Rattle.iscc.specs.Meaning.{Meaning}
 use Rattle.iscc.specs.Item.{Item, item_bytes, item_of}
-use Rattle.iscc.specs.Lists.{first_not}
+use Rattle.iscc.specs.Lists.{every, first_not}
 use Rattle.iscc.specs.Permitted.{unit_types}
 use Rattle.iscc.specs.Items.{set_in, bodies_in, subtype_of, read_items, joinable, composite_from, joined_meaning, joined_bytes}
 use Rattle.iscc.proofs.ItemTests.{some-items}
 use Rattle.iscc.proofs.Items.{items-read, CompositeParts, composite_from-parts, composite_from-permitted}
 use Rattle.iscc.proofs.Split.{joined-two}
 use Rattle.units.specs.declared.summary.Summary.{Summary}
-use Rattle.units.specs.declared.reader.Reading.{Reading}
-use Rattle.units.specs.declared.reader.Reading.TheVariants as reading
-use Rattle.units.specs.declared.verdict.Verdict.{Verdict}
-use Rattle.units.specs.declared.verdict.Verdict.TheVariants as verdict
-use Rattle.units.specs.Summary.{Summarizes}
+use Rattle.units.specs.Reading.{Reading}
+use Rattle.units.specs.Verdict.{Verdict}
+use Rattle.units.specs.Summary.{Summarizes, breaker}
 use Rattle.units.specs.Reading.{leading_items, refused_index, reading_as}
 use Rattle.units.specs.Verdict.{verdict_detail, verdict_as, verdict_of, decided}
 use Rattle.units.proofs.Decided.{decided-is}
 use Rattle.units.proofs.Leading.{leading-all}
-use Rattle.composite.specs.declared.bodies.Composite.{Composite}
-use Rattle.composite.specs.Bodies.{Makes, composite_as}
-use Rattle.composite.specs.Code.{Sound, composite_bytes}
+use Rattle.composite.specs.Bodies.{Parts, Sound, Makes, composite_as}
+use Rattle.composite.specs.Code.{composite_bytes}
 use Rattle.composite.specs.Joined.{Listed, composed_bytes, single_refusal}
 use Rattle.composite.proofs.FromSummary.{permitted-parts}
 use Rattle.composite.proofs.Bytes.{sound-of, code_of}
 
 -- ---- the composite that is written
 
-module _ (bs : List ℕ) (l : Summary) (m : Meaning) (k : Makes bs l m) (c : Composite) (e : c ≡ composite_as m) where
+module _ (bs : List ℕ) (l : Summary) (m : Meaning) (k : Makes bs l m) (c : Parts) (e : c ≡ composite_as m) where
   abbrev is : List Item
   is = k.items
 
@@ -57,11 +56,11 @@ module _ (bs : List ℕ) (l : Summary) (m : Meaning) (k : Makes bs l m) (c : Com
 
 -- ---- the verdict
 
-by-refused : (k : ℕ) (a : Answer Meaning) (q : Refusal) (j : ℕ) → verdict.Refused q j ≡ verdict_as k a → (a ≡ refuse q) × (k ≡ j)
+by-refused : (k : ℕ) (a : Answer Meaning) (q : Refusal) (j : ℕ) → Err (with_detail j q) ≡ verdict_as k a → (a ≡ refuse q) × (k ≡ j)
 by-refused k (accept m) q j e = let z : ◌≡◌ {A = ℕ} 0 1 = cc in absurd (omega arith)
-by-refused k (refuse p) q j e = let s : p ≡ q = cc in let t : k ≡ j = cc in (ap refuse s, t)
+by-refused k (refuse p) q j e = let s : with_detail j q ≡ with_detail k p = cc in (ap (λ (d : DetailedRefusal). refuse d.refusal) (sym s), ap (λ (d : DetailedRefusal). d.detail) (sym s))
 
-by-composite : (k : ℕ) (a : Answer Meaning) → verdict.Composite ≡ verdict_as k a → (m : Meaning) × (a ≡ accept m)
+by-composite : (k : ℕ) (a : Answer Meaning) → Ok tt ≡ verdict_as k a → (m : Meaning) × (a ≡ accept m)
 by-composite k (accept m) e = (m, refl)
 by-composite k (refuse p) e = let z : ◌≡◌ {A = ℕ} 0 1 = cc in absurd (omega arith)
 
@@ -73,13 +72,13 @@ module _ (bs : List ℕ) (l : Summary) (i : Listed bs l) {v : Verdict} (ev : v �
   verdict-is : v ≡ verdict_of i.items
   verdict-is = ev ∙ decided-is bs i.items l i.summary
 
-  pub verdict-refuses : (q : Refusal) (j : ℕ) → v ≡ verdict.Refused q j → (composed_bytes bs ≡ refuse q) × (verdict_detail i.items ≡ j)
+  pub verdict-refuses : (q : Refusal) (j : ℕ) → v ≡ Err (with_detail j q) → (composed_bytes bs ≡ refuse q) × (verdict_detail i.items ≡ j)
   unfolding composed_bytes verdict_of
   verdict-refuses q j e =
       let r = by-refused (verdict_detail i.items) (composite_from i.items) q j (sym e ∙ verdict-is) in
       (rw (i.read, r.0), r.1)
 
-  pub verdict-makes : Below 256 bs → v ≡ verdict.Composite → (m : Meaning) × Makes bs l m × (composed_bytes bs ≡ accept (item_bytes (item_of m)))
+  pub verdict-makes : Below 256 bs → v ≡ Ok tt → (m : Meaning) × Makes bs l m × (composed_bytes bs ≡ accept (item_bytes (item_of m)))
   unfolding composed_bytes verdict_of
   verdict-makes b e =
       let r = by-composite (verdict_detail i.items) (composite_from i.items) (sym e ∙ verdict-is) in (
@@ -90,21 +89,21 @@ module _ (bs : List ℕ) (l : Summary) (i : Listed bs l) {v : Verdict} (ev : v �
 
 -- ---- what the list reader tells
 
-items-told : (k : ℕ) (x : Answer (List Item)) {a : Reading} → a ≡ reading_as k x → a ≡ reading.Items → (is : List Item) × (x ≡ accept is)
+items-told : (k : ℕ) (x : Answer (List Item)) {a : Reading} → a ≡ reading_as k x → a ≡ Ok tt → (is : List Item) × (x ≡ accept is)
 items-told k (accept is) e f = (is, refl)
 items-told k (refuse q) e f = let z : ◌≡◌ {A = ℕ} 0 1 = cc in absurd (omega arith)
 
-refusal-told : (k : ℕ) (x : Answer (List Item)) {a : Reading} (q : Refusal) (j : ℕ) → a ≡ reading_as k x → a ≡ reading.Refused q j → (x ≡ refuse q) × (k ≡ j)
+refusal-told : (k : ℕ) (x : Answer (List Item)) {a : Reading} (q : Refusal) (j : ℕ) → a ≡ reading_as k x → a ≡ Err (with_detail j q) → (x ≡ refuse q) × (k ≡ j)
 refusal-told k (accept is) q j e f = let z : ◌≡◌ {A = ℕ} 0 1 = cc in absurd (omega arith)
-refusal-told k (refuse p) q j e f = let s : p ≡ q = cc in let t : k ≡ j = cc in (ap refuse s, t)
+refusal-told k (refuse p) q j e f = let s : with_detail k p ≡ with_detail j q = cc in (ap (λ (d : DetailedRefusal). refuse d.refusal) s, ap (λ (d : DetailedRefusal). d.detail) s)
 
 module _ (bs : List ℕ) {a : Reading} (ea : a ≡ reading_as (refused_index bs) (read_items bs)) where
-  pub listed_of : (l : Summary) → Summarizes bs (leading_items bs) l → a ≡ reading.Items → Listed bs l
+  pub listed_of : (l : Summary) → Summarizes bs (leading_items bs) l → a ≡ Ok tt → Listed bs l
   listed_of l f e =
       let r = items-told (refused_index bs) (read_items bs) ea e in
       record { items = r.0; read = r.1; summary = subst (λ (is : List Item). Summarizes bs is l) (leading-all bs r.0 r.1) f }
 
-  pub read-refused : (q : Refusal) (j : ℕ) → a ≡ reading.Refused q j → (read_items bs ≡ refuse q) × (refused_index bs ≡ j)
+  pub read-refused : (q : Refusal) (j : ℕ) → a ≡ Err (with_detail j q) → (read_items bs ≡ refuse q) × (refused_index bs ≡ j)
   read-refused q j e = refusal-told (refused_index bs) (read_items bs) q j ea e
 
 -- ---- join
@@ -119,11 +118,11 @@ one-or-more bs [] P e f g = absurd (not-suc-le-zero (some-items bs [] e))
 one-or-more bs (i ∷ []) P e f g = f i refl
 one-or-more bs (i ∷ j ∷ js) P e f g = g i j js refl
 
-single-by : (l : Summary) (i : Item) → l.not_joinable ≡ first_not joinable (i ∷ []) → ◌≡◌ {A = Answer Meaning} (joinable i otherwise not_joinable >> refuse lacks_data_or_instance) (refuse (single_refusal l))
-unfolding single_refusal first_not
+single-by : (l : Summary) (i : Item) → l.not_joinable ≡ breaker joinable (i ∷ []) → ◌≡◌ {A = Answer Meaning} (joinable i otherwise not_joinable >> refuse lacks_data_or_instance) (refuse (single_refusal l))
+unfolding single_refusal every
 single-by l i e = rw e (go (joinable i))
   where
-    go : (b : Bool) → ◌≡◌ {A = Answer Meaning} (b otherwise not_joinable >> refuse lacks_data_or_instance) (refuse (cond (eqb (cond b 1 0) 0) not_joinable lacks_data_or_instance))
+    go : (b : Bool) → ◌≡◌ {A = Answer Meaning} (b otherwise not_joinable >> refuse lacks_data_or_instance) (refuse (cond (is_some (cond (b && true) None (Some (first_not joinable (i ∷ []))))) not_joinable lacks_data_or_instance))
     go true = refl
     go false = refl
 
@@ -132,7 +131,7 @@ module _ (bs : List ℕ) (l : Summary) (i : Listed bs l) where
   unfolding joined_bytes joined_meaning
   joins-one h =
       rw i.read
-      (one-or-more bs i.items (λ is. length is < 2 → l.not_joinable ≡ first_not joinable is → (joined_meaning is >>= λ m. accept (item_bytes (item_of m))) ≡ refuse (single_refusal l)) i.read
+      (one-or-more bs i.items (λ is. length is < 2 → l.not_joinable ≡ breaker joinable is → (joined_meaning is >>= λ m. accept (item_bytes (item_of m))) ≡ refuse (single_refusal l)) i.read
       (λ x q c n. rw (single-by l x n))
       (λ x y ys q c n. absurd (omega arith))
       (omega (arith, i.summary.count)) i.summary.not_joinable)

@@ -1,32 +1,16 @@
 -- Bodies by their index, and parts of areas.
-use Prim.Native.Nat.{ℕ, zero, suc, ◌+◌, ◌-◌, ◌*◌, ◌≤◌, ◌<◌}
+use Prim.Native.Nat.{ℕ, zero, suc, ◌+◌, ◌-◌, ◌*◌, ◌<◌}
 use mathlib.Core.Path.{◌≡◌, refl, sym, ◌∙◌, ap, ap₂}
 use mathlib.Core.List.{List, [], ◌∷◌, ◌++◌, flatten, append_assoc, append-nil}
-use native.Mathlib.Nat.{le_of_suc-le-suc, not-suc-le-zero, add-suc, add-zero}
+use native.Mathlib.Nat.{le_of_suc-le-suc, not-suc-le-zero}
 use native.Mathlib.Numerals.{add-one}
 use native.Mathlib.Omega.{arith}
 use lib.ListN.{length, take, drop, get_or, set, replicate, length-append}
-use lib.Seq.{drop-cons, drop-drop, take_at, drop_at}
+use lib.Seq.{drop-drop, take_at, drop_at}
+use Rattle.std.specs.List.{flat_map}
 use Rattle.composite.specs.Bodies.{filled_bodies, laid}
 
--- ---- the elements of a part, written out
-
-abbrev pub elems : List ℕ → ℕ → ℕ → ℕ → List ℕ
-elems s offset j zero = []
-elems s offset j (suc k) = get_or s (offset + j) 0 ∷ elems s offset (suc j) k
-
-elems-from : (s : List ℕ) (offset j k : ℕ) → offset + j + k ≤ length s → elems s offset j k ≡ take k (drop (offset + j) s)
-elems-from s offset j zero h = refl
-elems-from s offset j (suc k) h =
-    let l : offset + j < length s = omega arith in
-    rw (drop-cons s (offset + j) 0 l)
-    (ap (λ (r : List ℕ). get_or s (offset + j) 0 ∷ r)
-    (elems-from s offset (suc j) k (omega (arith, add-suc offset j)) ∙ ap (λ (m : ℕ). take k (drop m s)) (add-suc offset j)))
-
-pub elems-part : (s : List ℕ) (offset k : ℕ) → offset + k ≤ length s → elems s offset 0 k ≡ take k (drop offset s)
-elems-part s offset k h = elems-from s offset 0 k (omega arith) ∙ ap (λ (m : ℕ). take k (drop m s)) (add-zero offset)
-
--- a part of eight, put back
+-- a body written over its own place
 pub put_back : (o body ys : List ℕ) (offset : ℕ) → ys ≡ body
     → take offset o ++ (ys ++ drop (offset + 8 - offset) (drop offset o)) ≡ take offset o ++ (body ++ drop (offset + 8) o)
 put_back o body ys offset e =
@@ -135,3 +119,16 @@ unfolding laid flatten
 laid-flat f [] e = refl
 laid-flat f (x ∷ xs) e =
     laid-front f (length xs) ∙ ap₂ (λ (x y : List ℕ). x ++ y) (e 0 (omega arith)) (laid-flat (λ i. f (suc i)) xs (λ i h. e (suc i) (omega arith)))
+
+no_parts : (n : ℕ) → laid (λ i. get_or [] i []) n ≡ []
+unfolding laid
+no_parts zero = refl
+no_parts (suc n) = rw (no_parts n)
+
+-- the first n parts of a list, laid end to end
+pub flat-laid : (xs : List (List ℕ)) (n : ℕ) → flat_map (λ x. x) (take n xs) ≡ laid (λ i. get_or xs i []) n
+unfolding laid
+flat-laid [] zero = refl
+flat-laid [] (suc n) = sym (no_parts (suc n))
+flat-laid (x ∷ xs) zero = refl
+flat-laid (x ∷ xs) (suc n) = ap (λ (r : List ℕ). x ++ r) (flat-laid xs n) ∙ sym (laid-front (λ i. get_or (x ∷ xs) i []) n)

@@ -1,5 +1,5 @@
 -- The composite of a list that was read.
-use Rattle.std.specs.Prelude.{ℕ, ◌≡◌, cond, List, eqb}
+use Rattle.std.specs.Prelude.{ℕ, ◌≡◌, cond, List, is_some}
 use Rattle.iscc.specs.Refusals.{Refusal, not_joinable, lacks_data_or_instance}
 use Rattle.iscc.specs.Answer.{Answer, accept, ◌>>=◌}
 use Rattle.iscc.specs.Item.{Item, item_bytes, item_of}
@@ -22,4 +22,4 @@ composed_bytes bs = do
 
 -- of one item alone
 unfoldable pub single_refusal : Summary → Refusal
-single_refusal l = cond (eqb l.not_joinable 0) not_joinable lacks_data_or_instance
+single_refusal l = cond (is_some l.not_joinable) not_joinable lacks_data_or_instance

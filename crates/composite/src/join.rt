@@ -6,49 +6,38 @@ ghost use Rattle.iscc.specs.Representation.{written_as};
 ghost use Rattle.composite.specs.Joined.{Listed, composed_bytes, single_refusal};
 
 use crate::code;
-use crate::code::Coded;
 use iscc::refusal::Refusal;
-use iscc::written::Written;
-use units::reader::Reading;
 use units::summary::Summary;
 
 // Joins a list of two or more: 10 to 14, then 15.
-fn join_list(bytes: &[u8], list: Summary, out: &mut [u8]) -> Written
-    requires { Listed bytes.now list }
+fn join_list(bytes: &[u8], list: &Summary, out: &mut [u8]) -> Result<usize, Refusal>
+    requires { Listed bytes.now list.now }
     ensures answer { result ≡ written_as (into (length out.old) (composed_bytes bytes.now)) }
     ensures area { out.new ≡ area_after (into (length out.old) (composed_bytes bytes.now)) out.old }
 {
-    match code::write_list(bytes, list, out) {
-        Coded::Length(n) => Written::Length(n),
-        Coded::Refused(q, _) => Written::Refused(q),
-    }
+    Ok(code::write_list(bytes, list, out)?)
 }
 
 // Of one item alone: 10 if it is a composite or an ID, else 13.
-fn single(list: Summary) -> Refusal
-    ensures { result ≡ single_refusal list }
+#[tactic(auto, unfolding(crate::specs::Joined::single_refusal))]
+fn single(list: &Summary) -> Refusal
+    ensures { result ≡ single_refusal list.now }
 {
-    if list.not_joinable == 0 {
-        return Refusal::NOT_JOINABLE;
+    if list.not_joinable.is_some() {
+        return Refusal::NotJoinable;
     }
-    Refusal::LACKS_DATA_OR_INSTANCE
+    Refusal::LacksDataOrInstance
 }
 
 // Tests 7 to 9 from the left; of one item 10 or 13, of more 10 to 14; then 15. No bytes are 7.
-pub fn join(bytes: &[u8], out: &mut [u8]) -> Written
+pub fn join(bytes: &[u8], out: &mut [u8]) -> Result<usize, Refusal>
     ensures answer { result ≡ written_as (items.join bytes.now (length out.old)) }
     ensures area { out.new ≡ area_after (items.join bytes.now (length out.old)) out.old }
 {
     let read = units::reader::read(bytes);
-    let answer = read.answer;
-    let list = read.list;
-    match answer {
-        Reading::Refused(q, _) => Written::Refused(q),
-        Reading::Items => {
-            if list.count < 2 {
-                return Written::Refused(single(list));
-            }
-            join_list(bytes, list, out)
-        }
+    read.answer?;
+    if read.list.count < 2 {
+        return Err(single(&read.list));
     }
+    join_list(bytes, &read.list, out)
 }

@@ -6,18 +6,17 @@ ghost use Rattle.composite.specs.Wide.{wide_units};
 
 use iscc::main_type::MainType;
 use iscc::refusal::Refusal;
-use iscc::written::Written;
 
 // Splits a wide composite's own bytes into DATA and INSTANCE of 128 bits, or 15.
-pub(crate) fn write_units(bytes: &[u8], out: &mut [u8]) -> Written
+pub(crate) fn write_units(bytes: &[u8], out: &mut [u8]) -> Result<usize, Refusal>
     requires { length bytes.now ≡ 34 }
     ensures answer { result ≡ written_as (into (length out.old) (accept (wide_units bytes.now))) }
     ensures area { out.new ≡ area_after (into (length out.old) (accept (wide_units bytes.now))) out.old }
 {
     if out.len() < 36 {
-        return Written::Refused(Refusal::AREA_TOO_SHORT);
+        return Err(Refusal::AreaTooShort);
     }
-    unit::writer::write(MainType::DATA, 0, 0, 3, &bytes[2..18], out);
-    unit::writer::write(MainType::INSTANCE, 0, 0, 3, &bytes[18..34], &mut out[18..]);
-    Written::Length(36)
+    let _ = unit::writer::write(MainType::Data, 0, 0, 3, &bytes[2..18], out);
+    let _ = unit::writer::write(MainType::Instance, 0, 0, 3, &bytes[18..34], &mut out[18..]);
+    Ok(36)
 }

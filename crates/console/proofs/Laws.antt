@@ -1,55 +1,51 @@
 -- The answers of the strict door, of a change, of a question and of the log as C has them, by each case.
-use Prim.Native.Nat.{ℕ, ◌-◌, ◌≤◌}
-use mathlib.Core.Path.{◌≡◌, refl, sym, ◌∙◌, ap}
-use mathlib.Core.List.{List}
+use Rattle.std.specs.Prelude.{Result, Ok, Err, IfOk}
+use Rattle.iscc.specs.Refusals.{refusal_number}
+use Prim.Native.Nat.{ℕ, ◌≤◌}
+use mathlib.Core.Path.{◌≡◌, refl, sym, ◌∙◌, ap, ap₂}
+use mathlib.Core.List.{List, []}
 use native.Mathlib.Omega.{arith}
 use Rattle.iscc.specs.Answer.{Answer, accept, refuse, number_of}
 use Rattle.iscc.specs.Refusals.{Refusal}
 use Rattle.iscc.specs.Meaning.{Meaning}
-use Rattle.iscc.specs.declared.written.Outcome.{Outcome}
+use Rattle.iscc.specs.declared.outcome.Outcome.{Outcome}
 use Rattle.loans.specs.Writer.{Written}
 use Rattle.loans.specs.Replay as loans
 use Rattle.loans.specs.PendingLog.{NumberedChange, write_record}
 use Rattle.loans.proofs.LogPromises.{pending-log}
-use Rattle.pending_log.specs.declared.append.Appended.{Appended}
 use Rattle.pending_log.specs.declared.replay.Replayed.{Replayed}
 use Rattle.pending_log.specs.declared.replay.Replayed.TheVariants as ends
 use Rattle.pending_log.specs.Representation.{appended_as, end_as, replayed_as}
 use Rattle.iscc.specs.Representation.{code_as}
 use Rattle.loans.specs.Promotion as promotions
-use Rattle.promotion.specs.declared.answer.Promotion.{Promotion}
-use Rattle.promotion.specs.declared.answer.Verdict.{Verdict}
-use Rattle.promotion.specs.declared.answer.Verdict.TheVariants as verdicts
-use Rattle.promotion.specs.Representation.{promotion_as, verdict_number, verdict_offset}
-use Rattle.promotion.proofs.Answers.{all_told-is}
+use Rattle.iscc.specs.declared.code.Code.{Code}
+use Rattle.promotion.specs.declared.answer.Denial.TheVariants as denials
+use Rattle.promotion.specs.Representation.{Promotion, promotion_as}
 use Rattle.door.specs.Representation.{checked_number}
-use Rattle.door.specs.declared.strict.Checked.{Checked}
-use Rattle.door.specs.declared.strict.Checked.TheVariants.{Accepted, Refused}
+use Rattle.door.specs.Representation.{Checked}
 use Rattle.loans.specs.Contents.{number_taken}
 use Rattle.register.specs.Representation.{changed_number, changed_record, asked_as, holder_number, holder_borrower}
-use Rattle.register.specs.declared.answer.Changed.{Changed}
-use Rattle.register.specs.declared.answer.Changed.TheVariants as changes
+use Rattle.register.specs.Representation.{Changed}
 use Rattle.register.specs.declared.answer.Asked.{Asked}
-use Rattle.register.specs.declared.answer.Holder.{Holder}
-use Rattle.register.specs.declared.answer.Holder.TheVariants as holders
+use Rattle.register.specs.Representation.{Holder}
 use Rattle.console.specs.declared.lending.ChangeAnswer.{ChangeAnswer}
 use Rattle.console.specs.declared.lending.HolderAnswer.{HolderAnswer}
 use Rattle.console.specs.declared.logging.ReplayAnswer.{ReplayAnswer}
 use Rattle.console.specs.declared.promoting.PromotionAnswer.{PromotionAnswer}
-use Rattle.console.specs.Representation.{promotion_answer_as, change_answer_for, change_answer_as, holder_answer_as, moved_on, record_outcome, end_answer, replay_answer_as}
+use Rattle.console.specs.Representation.{promotion_with, promotion_answer_as, change_answer_for, change_answer_as, holder_answer_as, moved_on, record_outcome, end_answer, replay_answer_as}
 
-pub taken : (r : Checked) (x : Answer Meaning) → checked_number r ≡ number_of x → r ≡ Accepted → 0 ≡ number_of x
+pub taken : (r : Checked) (x : Answer Meaning) → checked_number r ≡ number_of x → r ≡ Ok tt → 0 ≡ number_of x
 taken r x e f = ap checked_number (sym f) ∙ e
 
-pub not_taken : (r : Checked) (x : Answer Meaning) (q : Refusal) → checked_number r ≡ number_of x → r ≡ Refused q → q.number ≡ number_of x
+pub not_taken : (r : Checked) (x : Answer Meaning) (q : Refusal) → checked_number r ≡ number_of x → r ≡ Err q → (refusal_number q) ≡ number_of x
 not_taken r x q e f = ap checked_number (sym f) ∙ e
 
 -- ---- a change
 
-pub is-done : (r : Changed) (n : ℕ) → r ≡ changes.Done n → record { number = 0; record_number = n } ≡ change_answer_for r
+pub is-done : (r : Changed) (n : ℕ) → r ≡ Ok n → record { number = 0; record_number = n } ≡ change_answer_for r
 is-done r n e = sym (ap change_answer_for e)
 
-pub not_done : (r : Changed) (q : Refusal) → r ≡ changes.Refused q → record { number = q.number; record_number = 0 } ≡ change_answer_for r
+pub not_done : (r : Changed) (q : Refusal) → r ≡ Err q → record { number = (refusal_number q); record_number = 0 } ≡ change_answer_for r
 not_done r q e = sym (ap change_answer_for e)
 
 -- by a text
@@ -67,36 +63,36 @@ asked-answer (accept b) looks = refl
 asked-answer (refuse q) looks = refl
 
 module _ (a : Asked) (x : Answer ℕ) (looks : ℕ) (e : a ≡ asked_as x looks) where
-  pub is_held : (b : ℕ) → a.holder ≡ holders.Borrower b → record { number = 0; borrower = b; looks = a.looks } ≡ holder_answer_as x looks
+  pub is_held : (b : ℕ) → a.holder ≡ Ok b → record { number = 0; borrower = b; looks = a.looks } ≡ holder_answer_as x looks
   is_held b f = ap (λ (h : Holder). record { number = holder_number h; borrower = holder_borrower h; looks = a.looks }) (sym f) ∙ ap answer_for e ∙ asked-answer x looks
 
-  pub not-held : (q : Refusal) → a.holder ≡ holders.Refused q → record { number = q.number; borrower = 0; looks = a.looks } ≡ holder_answer_as x looks
+  pub not-held : (q : Refusal) → a.holder ≡ Err q → record { number = (refusal_number q); borrower = 0; looks = a.looks } ≡ holder_answer_as x looks
   not-held q f = ap (λ (h : Holder). record { number = holder_number h; borrower = holder_borrower h; looks = a.looks }) (sym f) ∙ ap answer_for e ∙ asked-answer x looks
 
 -- ---- a record
 
 -- the position never goes back
-pub moved_on-is : (n : NumberedChange) (log : List ℕ) (position : ℕ) (r : Appended) → r ≡ appended_as position (write_record n log position) → position ≤ r.position
+pub moved_on-is : (n : NumberedChange) (log : List ℕ) (position : ℕ) (r : Result ℕ Refusal) → r ≡ appended_as (write_record n log position) → IfOk r (λ (end : ℕ). position ≤ end)
 moved_on-is n log position r e = rw e (go (write_record n log position) refl)
   where
-    go : (x : Answer Written) → write_record n log position ≡ x → position ≤ (appended_as position x).position
+    go : (x : Answer Written) → write_record n log position ≡ x → IfOk (appended_as x) (λ (end : ℕ). position ≤ end)
     go (accept w) f = omega (arith, (pending-log.appends n log position w f).moved)
-    go (refuse q) f = omega arith
+    go (refuse q) f = tt
 
-pub record-told : (position : ℕ) (x : Answer Written) (r : Appended) (o : Outcome) → r ≡ appended_as position x → o ≡ moved_on position r → o ≡ record_outcome position x
+pub record-told : (position : ℕ) (x : Answer Written) (r : Result ℕ Refusal) (o : Outcome) → r ≡ appended_as x → o ≡ moved_on position r → o ≡ record_outcome position x
 record-told position x r o e f = f ∙ ap (moved_on position) e ∙ go x
   where
-    go : (x : Answer Written) → moved_on position (appended_as position x) ≡ record_outcome position x
+    go : (x : Answer Written) → moved_on position (appended_as x) ≡ record_outcome position x
     go (accept w) = refl
-    go (refuse q) = let n : position - position ≡ 0 = omega arith in ap (λ (k : ℕ). record { number = q.number; length = k }) n
+    go (refuse q) = refl
 
 -- ---- a replay
 
 abbrev replay_for : Replayed → ReplayAnswer
 replay_for ends.Ended = record { number = 0; end = 1; offset = 0 }
 replay_for (ends.Torn offset) = record { number = 0; end = 2; offset = offset }
-replay_for (ends.Stopped q offset) = record { number = q.number; end = 3; offset = offset }
-replay_for (ends.Refused q) = record { number = q.number; end = 0; offset = 0 }
+replay_for (ends.Stopped q offset) = record { number = (refusal_number q); end = 3; offset = offset }
+replay_for (ends.Refused q) = record { number = (refusal_number q); end = 0; offset = 0 }
 
 end-answer : (x : loans.End) → replay_for (end_as x) ≡ end_answer x
 end-answer loans.ended = refl
@@ -117,36 +113,27 @@ module _ (r : Replayed) (x : Answer (loans.Replayed (List ℕ))) (e : r ≡ repl
   pub is-torn : (offset : ℕ) → r ≡ ends.Torn offset → record { number = 0; end = 2; offset = offset } ≡ replay_answer_as x
   is-torn offset f = answer-of _ f
 
-  pub is-stopped : (q : Refusal) (offset : ℕ) → r ≡ ends.Stopped q offset → record { number = q.number; end = 3; offset = offset } ≡ replay_answer_as x
+  pub is-stopped : (q : Refusal) (offset : ℕ) → r ≡ ends.Stopped q offset → record { number = (refusal_number q); end = 3; offset = offset } ≡ replay_answer_as x
   is-stopped q offset f = answer-of _ f
 
-  pub not-begun : (q : Refusal) → r ≡ ends.Refused q → record { number = q.number; end = 0; offset = 0 } ≡ replay_answer_as x
+  pub not-begun : (q : Refusal) → r ≡ ends.Refused q → record { number = (refusal_number q); end = 0; offset = 0 } ≡ replay_answer_as x
   not-begun q f = answer-of _ f
 
 -- ---- a promotion
 
-module _ (p : Promotion) (v : promotions.Verdict) (e : p ≡ promotion_as v) where
-  verdict-of : (w : Verdict) → p.verdict ≡ w
-      → ◌≡◌ {A = PromotionAnswer} (record { number = verdict_number w; offset = verdict_offset w; code_length = p.code.length; code = p.code.bytes }) (promotion_answer_as v)
-  unfolding code_as
-  verdict-of w f =
-      let t = all_told-is v p e in
-      let c = ap (λ (x : Promotion). x.code) e in
-      ap (λ (x : Verdict). record { number = verdict_number x; offset = verdict_offset x; code_length = p.code.length; code = p.code.bytes }) (sym f)
-      ∙ rw (t.0, t.1, c)
+-- by what the code answers, and the code c that it tells
+abbrev promotion_for : Promotion → Code → PromotionAnswer
+promotion_for (Ok x) c = promotion_with 0 0 c
+promotion_for (Err (denials.Refused q)) c = promotion_with (refusal_number q) 0 c
+promotion_for (Err (denials.At q offset)) c = promotion_with (refusal_number q) offset c
+promotion_for (Err (denials.For q code)) c = promotion_with (refusal_number q) 0 code
 
-  pub is-granted : p.verdict ≡ verdicts.Granted
-      → ◌≡◌ {A = PromotionAnswer} (record { number = 0; offset = 0; code_length = p.code.length; code = p.code.bytes }) (promotion_answer_as v)
-  is-granted f = verdict-of _ f
+promotion-answer : (v : promotions.Verdict) → promotion_for (promotion_as v) (code_as []) ≡ promotion_answer_as v
+unfolding code_as
+promotion-answer promotions.granted = refl
+promotion-answer (promotions.refused q) = refl
+promotion-answer (promotions.refused_at q offset) = refl
+promotion-answer (promotions.refused_for q c) = refl
 
-  pub not-granted : (q : Refusal) → p.verdict ≡ verdicts.Refused q
-      → ◌≡◌ {A = PromotionAnswer} (record { number = q.number; offset = 0; code_length = p.code.length; code = p.code.bytes }) (promotion_answer_as v)
-  not-granted q f = verdict-of _ f
-
-  pub not-granted-at : (q : Refusal) (offset : ℕ) → p.verdict ≡ verdicts.RefusedAt q offset
-      → ◌≡◌ {A = PromotionAnswer} (record { number = q.number; offset = offset; code_length = p.code.length; code = p.code.bytes }) (promotion_answer_as v)
-  not-granted-at q offset f = verdict-of _ f
-
-  pub not-granted-for : (q : Refusal) → p.verdict ≡ verdicts.RefusedFor q
-      → ◌≡◌ {A = PromotionAnswer} (record { number = q.number; offset = 0; code_length = p.code.length; code = p.code.bytes }) (promotion_answer_as v)
-  not-granted-for q f = verdict-of _ f
+pub promotion-told : (p s : Promotion) (v : promotions.Verdict) (c : Code) → p ≡ promotion_as v → p ≡ s → c ≡ code_as [] → promotion_for s c ≡ promotion_answer_as v
+promotion-told p s v c e f k = ap₂ promotion_for (sym f ∙ e) k ∙ promotion-answer v

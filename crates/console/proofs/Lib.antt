@@ -4,3 +4,4 @@ pub mod Numbers
 pub mod Demand3
 pub mod Loans
 pub mod Promotion
+pub mod Counted

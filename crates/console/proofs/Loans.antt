@@ -24,8 +24,7 @@ use Rattle.loans.proofs.LogPromises.{pending-log}
 use Rattle.loans.proofs.CountPromises.{how-many-out, not-told}
 use Rattle.loans.proofs.NumberPromises.{record-numbers}
 use Rattle.console.specs.declared.logging.ReplayAnswer.{ReplayAnswer}
-use Rattle.register.specs.Representation.{counts_as}
-use Rattle.console.specs.Representation.{change_answer_as, holder_answer_as, end_answer, replay_answer_as}
+use Rattle.console.specs.Representation.{change_answer_as, holder_answer_as, end_answer, replay_answer_as, counts_answer_as}
 use Rattle.console.specs.Loans.{CallAnswer, answer_as, without_looks, told, left, all_told, Heard, of_call, of_replay, heard_as, heard, leaves, all_heard, all_left, all_made, after_replay, ran_to, ConsoleLoans}
 
 -- a change tells its number, and no borrower
@@ -86,10 +85,10 @@ all_left-is [] area = refl
 all_left-is (w ∷ ws) area = ap (all_left ws) (is-left w area) ∙ all_left-is ws (performed w area).state
 
 codes-out : (ws : List Operation) → GoodOperations ws → (area : List ℕ) → all_done register apply_record ws empty_register ≡ area
-    → ((counts_as (counts_asked area)).number ≡ 0) × ((counts_as (counts_asked area)).out + returns (all_made ws) ≡ issues (all_made ws))
+    → ((counts_answer_as (counts_asked area)).number ≡ 0) × ((counts_answer_as (counts_asked area)).out + returns (all_made ws) ≡ issues (all_made ws))
 codes-out ws g area e = go (counts_asked area) refl
   where
-    go : (x : Answer (List ℕ)) → counts_asked area ≡ x → ((counts_as x).number ≡ 0) × ((counts_as x).out + returns (all_made ws) ≡ issues (all_made ws))
+    go : (x : Answer (List ℕ)) → counts_asked area ≡ x → ((counts_answer_as x).number ≡ 0) × ((counts_answer_as x).out + returns (all_made ws) ≡ issues (all_made ws))
     go (accept ns) w =
         let n : get_or ns 0 0 ≡ number_at 0 (all_done register apply_record ws empty_register) =
         ap (λ (ks : List ℕ). get_or ks 0 0) (how-many-out.told area ns w) ∙ ap (number_at 0) (sym e) in

@@ -1,4 +1,5 @@
 -- The numbers and lengths that C is told.
+use Rattle.iscc.specs.Refusals.{refusal_number}
 use Prim.Native.Nat.{ℕ, ◌+◌, ◌≤◌}
 use mathlib.Core.Path.{◌≡◌, refl, sym, ap}
 use mathlib.Core.Bool.{Bool, true, false}
@@ -23,14 +24,13 @@ use Rattle.loans.proofs.Promises.{loans-register}
 use Rattle.loans.proofs.LogPromises.{pending-log}
 use Rattle.loans.proofs.CountPromises.{not-told}
 use Rattle.loans.proofs.PromotionPromises.{may-be-promoted}
-use Rattle.register.specs.Representation.{counts_as}
-use Rattle.console.specs.Representation.{distance_answer_as, holder_answer_as, record_outcome, end_answer, replay_answer_as}
+use Rattle.console.specs.Representation.{distance_answer_as, holder_answer_as, record_outcome, end_answer, replay_answer_as, counts_answer_as}
 use Rattle.console.specs.Numbers.{NumberFor, ToldOf, not_stopped, ConsoleNumbers}
 
-exact : {A : Type 0} (most : ℕ) (x : Answer A) → ((q : Refusal) → x ≡ refuse q → (1 ≤ q.number) × (q.number ≤ most)) → NumberFor most x (number_of x)
+exact : {A : Type 0} (most : ℕ) (x : Answer A) → ((q : Refusal) → x ≡ refuse q → (1 ≤ (refusal_number q)) × ((refusal_number q) ≤ most)) → NumberFor most x (number_of x)
 exact most x h = record { success = number-0 x (λ q e. (h q e).0); table = go x h }
   where
-    go : {A : Type 0} (x : Answer A) → ((q : Refusal) → x ≡ refuse q → (1 ≤ q.number) × (q.number ≤ most)) → number_of x ≤ most
+    go : {A : Type 0} (x : Answer A) → ((q : Refusal) → x ≡ refuse q → (1 ≤ (refusal_number q)) × ((refusal_number q) ≤ most)) → number_of x ≤ most
     go (accept a) h = omega arith
     go (refuse q) h = (h q refl).1
 
@@ -49,12 +49,12 @@ holder-number : (x : Answer ℕ) (looks : ℕ) → (holder_answer_as x looks).nu
 holder-number (accept b) looks = refl
 holder-number (refuse q) looks = refl
 
-counts-number : (x : Answer (List ℕ)) → (counts_as x).number ≡ number_of x
+counts-number : (x : Answer (List ℕ)) → (counts_answer_as x).number ≡ number_of x
 counts-number (accept ns) = refl
 counts-number (refuse q) = refl
 
-counts-numbers : (area : List ℕ) (q : Refusal) → counts_asked area ≡ refuse q → (1 ≤ q.number) × (q.number ≤ 23)
-counts-numbers area q e = let n : q.number ≡ 23 = ap (λ (r : Refusal). r.number) (not-told area q e).0 in (omega arith, omega arith)
+counts-numbers : (area : List ℕ) (q : Refusal) → counts_asked area ≡ refuse q → (1 ≤ (refusal_number q)) × ((refusal_number q) ≤ 23)
+counts-numbers area q e = let n : (refusal_number q) ≡ 23 = ap refusal_number (not-told area q e).0 in (omega arith, omega arith)
 
 -- ---- the log
 
@@ -83,18 +83,18 @@ stopped_by ended q e = absurd (never (sym e))
 stopped_by (torn offset) q e = absurd (never (sym e))
 stopped_by (stopped p offset) q e = (offset, ap (λ (r : Refusal). stopped r offset) (refuse-inj e))
 
-replay-numbers : (log area : List ℕ) (q : Refusal) → not_stopped (replay_log log area) ≡ refuse q → (1 ≤ q.number) × (q.number ≤ 25)
+replay-numbers : (log area : List ℕ) (q : Refusal) → not_stopped (replay_log log area) ≡ refuse q → (1 ≤ (refusal_number q)) × ((refusal_number q) ≤ 25)
 unfolding replayed
 replay-numbers log area q = go (is_register area)
   where
     go : (v : Bool) → not_stopped (v otherwise not_register >> accept (in_bytes register apply_record (replay_from apply_record 0 log (register.contents area)))) ≡ refuse q
-        → (1 ≤ q.number) × (q.number ≤ 25)
+        → (1 ≤ (refusal_number q)) × ((refusal_number q) ≤ 25)
     go true e =
         let s = stopped_by (replay_from apply_record 0 log (register.contents area)).end q e in
         let n = pending-log.stop_number log area q s.0 s.1 in
         (omega (arith, n.0), n.1)
     go false e =
-        let n : 23 ≡ q.number = ap (λ (r : Refusal). r.number) (refuse-inj e) in
+        let n : 23 ≡ (refusal_number q) = ap refusal_number (refuse-inj e) in
         (omega arith, omega arith)
 
 pub console-numbers : ConsoleNumbers

@@ -1,4 +1,5 @@
 -- What a promotion promises holds over what C is told.
+use Rattle.iscc.specs.Refusals.{refusal_number}
 use Prim.Native.Nat.{ℕ}
 use mathlib.Core.Path.{◌≡◌, refl, sym, ap, subst}
 use mathlib.Core.Logic.{inl, inr, ◌↔◌}
@@ -28,25 +29,25 @@ module _ (log replica work : List ℕ) where
   by-0 : (v : Verdict) → Means log replica work v → number_of (verdict_answer v) ≡ 0 → v ≡ granted
   by-0 granted m e = refl
   by-0 (refused q) m e = absurd (omega (arith, m.0, e))
-  by-0 (refused_at q offset) m e = elim m.0 [ inl w ↦ absurd (omega (arith, w, e)) | inr w ↦ absurd (omega (arith, ap (λ (r : Refusal). r.number) w.0, e)) ]
-  by-0 (refused_for q c) m e = absurd (omega (arith, ap (λ (r : Refusal). r.number) m.0, e))
+  by-0 (refused_at q offset) m e = elim m.0 [ inl w ↦ absurd (omega (arith, w, e)) | inr w ↦ absurd (omega (arith, ap refusal_number w.0, e)) ]
+  by-0 (refused_for q c) m e = absurd (omega (arith, ap refusal_number m.0, e))
 
   by-27 : (v : Verdict) → Means log replica work v → number_of (verdict_answer v) ≡ 27 → LastAlone log replica work
   by-27 granted m e = absurd (omega (arith, e))
   by-27 (refused q) m e = m.1 e
-  by-27 (refused_at q offset) m e = elim m.0 [ inl w ↦ absurd (omega (arith, w, e)) | inr w ↦ absurd (omega (arith, ap (λ (r : Refusal). r.number) w.0, e)) ]
-  by-27 (refused_for q c) m e = absurd (omega (arith, ap (λ (r : Refusal). r.number) m.0, e))
+  by-27 (refused_at q offset) m e = elim m.0 [ inl w ↦ absurd (omega (arith, w, e)) | inr w ↦ absurd (omega (arith, ap refusal_number w.0, e)) ]
+  by-27 (refused_for q c) m e = absurd (omega (arith, ap refusal_number m.0, e))
 
   by-36 : (v : Verdict) → Means log replica work v → number_of (verdict_answer v) ≡ 36 → Admitted replica work × ((from_empty log).end ≡ torn (offset_told v))
   by-36 granted m e = absurd (omega (arith, e))
   by-36 (refused q) m e = absurd (omega (arith, m.0, e))
   by-36 (refused_at q offset) m e = elim m.0 [ inl w ↦ absurd (omega (arith, w, e)) | inr w ↦ (m.1.admitted, w.1) ]
-  by-36 (refused_for q c) m e = absurd (omega (arith, ap (λ (r : Refusal). r.number) m.0, e))
+  by-36 (refused_for q c) m e = absurd (omega (arith, ap refusal_number m.0, e))
 
   by-37 : (v : Verdict) → Means log replica work v → Below 256 log → number_of (verdict_answer v) ≡ 37 → LoansApart log replica work (code_told v)
   by-37 granted m k e = absurd (omega (arith, e))
   by-37 (refused q) m k e = absurd (omega (arith, m.0, e))
-  by-37 (refused_at q offset) m k e = elim m.0 [ inl w ↦ absurd (omega (arith, w, e)) | inr w ↦ absurd (omega (arith, ap (λ (r : Refusal). r.number) w.0, e)) ]
+  by-37 (refused_at q offset) m k e = elim m.0 [ inl w ↦ absurd (omega (arith, w, e)) | inr w ↦ absurd (omega (arith, ap refusal_number w.0, e)) ]
   by-37 (refused_for q c) m k e = m.1 k
 
   is-yes : (told log replica work).number ≡ 0 → promotion log replica work ≡ granted
@@ -57,12 +58,12 @@ unfolding zero_filled
 front c = take-append_seam c _
 
 -- a question's answer, as C has it
-holder-told : (x : Answer ℕ) (looks b : ℕ) → ((q : Refusal) → x ≡ refuse q → q.number ≡ 0 → ⊥)
+holder-told : (x : Answer ℕ) (looks b : ℕ) → ((q : Refusal) → x ≡ refuse q → (refusal_number q) ≡ 0 → ⊥)
     → (((holder_answer_as x looks).number ≡ 0) × ((holder_answer_as x looks).borrower ≡ b)) ↔ (x ≡ accept b)
 holder-told (accept a) looks b f = ((λ e. ap accept e.1), λ e. (refl, accept-inj e))
 holder-told (refuse q) looks b f = ((λ e. absurd (f q refl e.0)), λ e. let z : ◌≡◌ {A = ℕ} 0 1 = cc in absurd (omega arith))
 
-done : (x : Answer (List ℕ)) → ((q : Refusal) → x ≡ refuse q → q.number ≡ 0 → ⊥) → (change_answer_as x).number ≡ 0 → Accepted x
+done : (x : Answer (List ℕ)) → ((q : Refusal) → x ≡ refuse q → (refusal_number q) ≡ 0 → ⊥) → (change_answer_as x).number ≡ 0 → Accepted x
 done (accept a) f e = tt
 done (refuse q) f e = f q refl e
 

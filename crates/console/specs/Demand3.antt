@@ -9,7 +9,7 @@ use Rattle.iscc.specs.Item.{Item, item_bytes, item_of}
 use Rattle.iscc.specs.Lists.{Reordered}
 use Rattle.iscc.specs.Doors.{scheme, items_of_text, meaning_of_text, text_of, intake, strict}
 use Rattle.iscc.specs.Representation.{written_as, outcome_as}
-use Rattle.iscc.specs.declared.written.Outcome.{Outcome}
+use Rattle.iscc.specs.declared.outcome.Outcome.{Outcome}
 
 -- what `iscc_intake` answers for the text t and the area a, and the area after it
 abbrev pub answer_of : List ℕ → List ℕ → Outcome

@@ -1,5 +1,6 @@
 -- What the register and its log promise, over what the entries tell C and leave in the area, as their contracts have it.
 -- proofs/Loans.antt proves it.
+use Rattle.iscc.specs.Refusals.{refusal_number}
 use Rattle.std.specs.Prelude.{ℕ, suc, ◌+◌, ◌≤◌, ◌<◌, ◌≡◌, List, [], ◌∷◌, map, length, take}
 use Rattle.iscc.specs.Refusals.{Refusal}
 use Rattle.iscc.specs.Answer.{Answer, accept, refuse}
@@ -14,10 +15,9 @@ use Rattle.loans.specs.PendingLog.{apply_record, apply_to_map, replay_log}
 use Rattle.loans.specs.Operations.{Operation, live, replay, GoodOperations, Told, answered, ran}
 use Rattle.loans.specs.Operations as operations
 use Rattle.loans.specs.CodesOut.{issues, returns, all_changes, takes_record}
-use Rattle.register.specs.Representation.{counts_as}
 use Rattle.console.specs.declared.lending.HolderAnswer.{HolderAnswer}
 use Rattle.console.specs.declared.logging.ReplayAnswer.{ReplayAnswer}
-use Rattle.console.specs.Representation.{change_answer_as, holder_answer_as, end_answer, replay_answer_as}
+use Rattle.console.specs.Representation.{change_answer_as, holder_answer_as, end_answer, replay_answer_as, counts_answer_as}
 
 -- an answer as a plain map has it, which knows no looks and tells no record number
 pub record CallAnswer : Type 0 where
@@ -26,7 +26,7 @@ pub record CallAnswer : Type 0 where
 
 abbrev pub answer_as : Answer ℕ → CallAnswer
 answer_as (accept b) = record { number = 0; borrower = b }
-answer_as (refuse q) = record { number = q.number; borrower = 0 }
+answer_as (refuse q) = record { number = (refusal_number q); borrower = 0 }
 
 abbrev pub without_looks : HolderAnswer → CallAnswer
 without_looks a = record { number = a.number; borrower = a.borrower }
@@ -57,7 +57,7 @@ pub data Heard : Type 0 where
 abbrev pub heard_as : Told → Heard
 heard_as (answered x) = of_call (answer_as x)
 heard_as (ran (accept e)) = of_replay (end_answer e)
-heard_as (ran (refuse q)) = of_replay (record { number = q.number; end = 0; offset = 0 })
+heard_as (ran (refuse q)) = of_replay (record { number = (refusal_number q); end = 0; offset = 0 })
 
 -- what an operation's entry tells, and the area after it
 abbrev pub heard : Operation → List ℕ → Heard
@@ -104,7 +104,7 @@ pub record ConsoleLoans : Type 0 where
   pub nine : (t area : List ℕ) → (holder_answer_as (ask_text t area) (looks_text t area)).looks ≤ 9
   -- "the first number is accepted issues minus accepted returns", and it is told without 23
   pub codes_out : (ws : List Operation) → GoodOperations ws
-      → let a = counts_as (counts_asked (all_left ws empty_register)) in (a.number ≡ 0) × (a.out + returns (all_made ws) ≡ issues (all_made ws))
+      → let a = counts_answer_as (counts_asked (all_left ws empty_register)) in (a.number ≡ 0) × (a.out + returns (all_made ws) ≡ issues (all_made ws))
   -- "An issue and a return take the next number", and tell it; a refusal tells 0
   pub issue_takes : (t : List ℕ) (b : ℕ) (area area' : List ℕ) → Below 256 area → b < 4294967296 → issue_text t b area ≡ accept area'
       → (change_answer_as (issue_text t b area)).record_number ≡ suc (contents_of area).last

@@ -7,7 +7,7 @@ use Rattle.iscc.specs.Items.{join, split}
 use Rattle.iscc.specs.Doors.{intake, strict, read_code, write_text}
 use Rattle.iscc.specs.Distance.{distance}
 use Rattle.iscc.specs.Representation.{written_as, outcome_as}
-use Rattle.iscc.specs.declared.written.Outcome.{Outcome}
+use Rattle.iscc.specs.declared.outcome.Outcome.{Outcome}
 use Rattle.distance.specs.Representation.{measured_as}
 use Rattle.loans.specs.Contents.{issue_text, return_text, ask_text, looks_text, counts_asked}
 use Rattle.loans.specs.Fields.{field_bytes}
@@ -16,8 +16,7 @@ use Rattle.loans.specs.LogOrder.{stop_of}
 use Rattle.loans.specs.PendingLog.{NumberedChange, record_of, write_record, replay_log}
 use Rattle.loans.specs.Promotion.{promotion}
 use Rattle.loans.specs.PromotionOrder.{verdict_answer}
-use Rattle.register.specs.Representation.{counts_as}
-use Rattle.console.specs.Representation.{distance_answer_as, change_answer_as, holder_answer_as, record_outcome, replay_answer_as, promotion_answer_as}
+use Rattle.console.specs.Representation.{distance_answer_as, change_answer_as, holder_answer_as, record_outcome, replay_answer_as, promotion_answer_as, counts_answer_as}
 
 -- a number that is 0 exactly where the definition accepts, and else one of the table up to the given one
 pub record NumberFor {A : Type 0} (most : ℕ) (x : Answer A) (number : ℕ) : Type 0 where
@@ -47,7 +46,7 @@ pub record ConsoleNumbers : Type 0 where
   pub issue_told : (t : List ℕ) (b : ℕ) (area : List ℕ) → NumberFor 26 (issue_text t b area) (change_answer_as (issue_text t b area)).number
   pub return_told : (t area : List ℕ) → NumberFor 26 (return_text t area) (change_answer_as (return_text t area)).number
   pub ask_told : (t area : List ℕ) → NumberFor 23 (ask_text t area) (holder_answer_as (ask_text t area) (looks_text t area)).number
-  pub counts_told : (area : List ℕ) → NumberFor 23 (counts_asked area) (counts_as (counts_asked area)).number
+  pub counts_told : (area : List ℕ) → NumberFor 23 (counts_asked area) (counts_answer_as (counts_asked area)).number
   -- those of the log, which have 24 too: a record's length is told,
   pub record_told : (n : NumberedChange) (log : List ℕ) (position : ℕ) → NumberFor 24 (write_record n log position) (record_outcome position (write_record n log position)).number
   pub record_length : (n : NumberedChange) (log : List ℕ) (position : ℕ) → Accepted (write_record n log position)

@@ -4,15 +4,14 @@ ghost use Rattle.iscc.specs.Answer.{area_after};
 ghost use Rattle.iscc.specs.Items.{join, split};
 ghost use Rattle.iscc.specs.Representation.{written_as, outcome_as};
 
-use iscc::written::Outcome;
+use iscc::outcome::Outcome;
 
 #[unsafe(no_mangle)]
 pub extern "C" fn iscc_join(bytes: &[u8], out: &mut [u8]) -> Outcome
     ensures answer { result ≡ outcome_as (written_as (join bytes.now (length out.old))) }
     ensures area { out.new ≡ area_after (join bytes.now (length out.old)) out.old }
 {
-    let answer = composite::join::join(bytes, out);
-    answer.outcome()
+    Outcome::from(composite::join::join(bytes, out))
 }
 
 #[unsafe(no_mangle)]
@@ -20,6 +19,5 @@ pub extern "C" fn iscc_split(bytes: &[u8], out: &mut [u8]) -> Outcome
     ensures answer { result ≡ outcome_as (written_as (split bytes.now (length out.old))) }
     ensures area { out.new ≡ area_after (split bytes.now (length out.old)) out.old }
 {
-    let answer = composite::split::split(bytes, out);
-    answer.outcome()
+    Outcome::from(composite::split::split(bytes, out))
 }

@@ -2,10 +2,9 @@
 ghost use Rattle.std.specs.Prelude.{◌≡◌};
 ghost use Rattle.loans.specs.Calls.{afterwards};
 ghost use Rattle.loans.specs.Contents.{issue_text, return_text, ask_text, looks_text, counts_asked};
-ghost use Rattle.console.specs.Representation.{change_answer_as, change_answer_for, holder_answer_as};
-ghost use Rattle.register.specs.Representation.{counts_as};
+ghost use Rattle.console.specs.Representation.{change_answer_as, change_answer_for, holder_answer_as, counts_answer_as};
 
-use register::answer::{Changed, Counts, Holder};
+use iscc::refusal::Refusal;
 
 // Number 0 and the record number that the change took; or a refusal and 0.
 #[repr(C)]
@@ -24,17 +23,32 @@ pub struct HolderAnswer {
     pub looks: u32,
 }
 
+// Number 0 and how many codes are out, in all and by main type; or a refusal and zeros.
+#[repr(C)]
+#[derive(Clone, Copy)]
+pub struct Counts {
+    pub number: u32,
+    pub out: u32,
+    pub meta: u32,
+    pub semantic: u32,
+    pub content: u32,
+    pub data: u32,
+    pub instance: u32,
+    pub iscc: u32,
+    pub id: u32,
+}
+
 // A change's two numbers.
-fn told(answer: Changed) -> ChangeAnswer
+fn told(answer: Result<u32, Refusal>) -> ChangeAnswer
     ensures { result ≡ change_answer_for answer }
 {
     match answer {
-        Changed::Done(n) => ChangeAnswer {
+        Ok(n) => ChangeAnswer {
             number: 0,
             record_number: n,
         },
-        Changed::Refused(refusal) => ChangeAnswer {
-            number: refusal.number,
+        Err(why) => ChangeAnswer {
+            number: why.number(),
             record_number: 0,
         },
     }
@@ -45,8 +59,7 @@ pub extern "C" fn loans_issue(text: &[u8], borrower: u32, area: &mut [u8]) -> Ch
     ensures answer { result ≡ change_answer_as (issue_text text.now borrower area.old) }
     ensures area { area.new ≡ afterwards area.old (issue_text text.now borrower area.old) }
 {
-    let answer = register::calls::issue(text, borrower, area);
-    told(answer)
+    told(register::calls::issue(text, borrower, area))
 }
 
 #[unsafe(no_mangle)]
@@ -54,8 +67,7 @@ pub extern "C" fn loans_return(text: &[u8], area: &mut [u8]) -> ChangeAnswer
     ensures answer { result ≡ change_answer_as (return_text text.now area.old) }
     ensures area { area.new ≡ afterwards area.old (return_text text.now area.old) }
 {
-    let answer = register::calls::take_back(text, area);
-    told(answer)
+    told(register::calls::take_back(text, area))
 }
 
 #[unsafe(no_mangle)]
@@ -63,25 +75,47 @@ pub extern "C" fn loans_ask(text: &[u8], area: &[u8]) -> HolderAnswer
     ensures { result ≡ holder_answer_as (ask_text text.now area.now) (looks_text text.now area.now) }
 {
     let asked = register::calls::ask(text, area);
-    let holder = asked.holder;
     let looks = asked.looks;
-    match holder {
-        Holder::Borrower(b) => HolderAnswer {
+    match asked.holder {
+        Ok(borrower) => HolderAnswer {
             number: 0,
-            borrower: b,
-            looks: looks,
+            borrower,
+            looks,
         },
-        Holder::Refused(q) => HolderAnswer {
-            number: q.number,
+        Err(q) => HolderAnswer {
+            number: q.number(),
             borrower: 0,
-            looks: looks,
+            looks,
         },
     }
 }
 
 #[unsafe(no_mangle)]
 pub extern "C" fn loans_counts(area: &[u8]) -> Counts
-    ensures { result ≡ counts_as (counts_asked area.now) }
+    ensures { result ≡ counts_answer_as (counts_asked area.now) }
 {
-    register::calls::counts(area)
+    match register::calls::counts(area) {
+        Ok(counts) => Counts {
+            number: 0,
+            out: counts.out,
+            meta: counts.meta,
+            semantic: counts.semantic,
+            content: counts.content,
+            data: counts.data,
+            instance: counts.instance,
+            iscc: counts.iscc,
+            id: counts.id,
+        },
+        Err(refusal) => Counts {
+            number: refusal.number(),
+            out: 0,
+            meta: 0,
+            semantic: 0,
+            content: 0,
+            data: 0,
+            instance: 0,
+            iscc: 0,
+            id: 0,
+        },
+    }
 }

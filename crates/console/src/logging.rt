@@ -1,14 +1,14 @@
 // The pending issues log: include/loans.h declares its entries.
-ghost use Rattle.std.specs.Prelude.{◌≡◌, ◌≤◌};
+ghost use Rattle.std.specs.Prelude.{◌≡◌, ◌≤◌, IfOk};
 ghost use Rattle.loans.specs.Map.{issue_code, return_code};
 ghost use Rattle.loans.specs.Writer.{written_after};
 ghost use Rattle.loans.specs.Replay.{area_replayed};
 ghost use Rattle.loans.specs.PendingLog.{NumberedChange, write_record, replay_log};
 ghost use Rattle.console.specs.Representation.{moved_on, record_outcome, replay_answer_as};
 
-use iscc::written::Outcome;
+use iscc::outcome::Outcome;
+use iscc::refusal::Refusal;
 use pending_log::append;
-use pending_log::append::Appended;
 use pending_log::replay::Replayed;
 
 // How a replay ended: 0 where it did not begin.
@@ -28,14 +28,11 @@ pub struct ReplayAnswer {
 }
 
 // A record appended at a position: the number, and the length that the position moved on.
-fn told(answer: Appended, position: usize) -> Outcome
-    requires { position ≤ answer.position }
+fn told(answer: Result<usize, Refusal>, position: usize) -> Outcome
+    requires { IfOk answer (λ end. position ≤ end) }
     ensures { result ≡ moved_on position answer }
 {
-    Outcome {
-        number: answer.number,
-        length: answer.position - position,
-    }
+    Outcome::from(answer.map(|end| end - position))
 }
 
 #[unsafe(no_mangle)]
@@ -85,12 +82,12 @@ pub extern "C" fn loans_replay(log: &[u8], area: &mut [u8]) -> ReplayAnswer
             offset: offset,
         },
         Replayed::Stopped(q, offset) => ReplayAnswer {
-            number: q.number,
+            number: q.number(),
             end: STOPPED,
             offset: offset,
         },
         Replayed::Refused(q) => ReplayAnswer {
-            number: q.number,
+            number: q.number(),
             end: 0,
             offset: 0,
         },

@@ -1,10 +1,8 @@
 // The answer of a distance.
 ghost use Rattle.std.specs.Prelude.{◌≡◌};
-ghost use Rattle.distance.specs.Representation.{distance_as, measure, refused_as};
+ghost use Rattle.distance.specs.Representation.{distance_as, measure};
 
-use iscc::refusal::Refusal;
-
-// The differing bits, the bits compared and their ratio. A refusal has 0, 0 and +0.0.
+// The differing bits, the bits compared and their ratio.
 #[derive(Clone, Copy)]
 pub struct Distance {
     pub d: u16,
@@ -12,21 +10,9 @@ pub struct Distance {
     pub ratio: f32,
 }
 
-// Number 0 is success.
-#[derive(Clone, Copy)]
-pub struct Measured {
-    pub number: u32,
-    pub distance: Distance,
-}
-
 impl Distance {
-    pub const NONE: Distance = Distance {
-        d: 0,
-        n: 0,
-        ratio: 0.0,
-    };
-
     // d differing bits of n, with the ratio as one division of both counts.
+    #[tactic(auto, unfolding(iscc::specs::Distance::ratio_of))]
     pub(crate) fn new(d: u16, n: u16) -> Distance
         ensures { result ≡ distance_as (measure d n) }
     {
@@ -35,14 +21,5 @@ impl Distance {
             n,
             ratio: (d as f32) / (n as f32),
         }
-    }
-}
-
-pub(crate) fn refused(q: Refusal) -> Measured
-    ensures { result ≡ refused_as q }
-{
-    Measured {
-        number: q.number,
-        distance: Distance::NONE,
     }
 }

@@ -1,10 +1,10 @@
 -- The code that a text holds: the bytes of its run, read as items; and the call that writes it.
+use Rattle.std.specs.Prelude.{Ok, Err}
 use Prim.Native.Nat.{ℕ, ◌-◌, ◌≤◌, ◌<◌}
 use mathlib.Core.Path.{◌≡◌, refl, sym, ◌∙◌, ap}
 use mathlib.Core.List.{List, ◌++◌}
 use native.Mathlib.Omega.{arith}
 use lib.ListN.{length, take, drop}
-use lib.Seq.{length-take-le}
 use borrow.Author.Tests.{le-leb, lt-leb}
 use Rattle.iscc.specs.Refusals.{Refusal, long_text, area_too_short}
 use Rattle.iscc.specs.Answer.{Answer, accept, refuse, ◌>>=◌, into, area_after}
@@ -12,14 +12,13 @@ use Rattle.iscc.specs.Item.{Item, item_bytes, item_of}
 use Rattle.iscc.specs.Items.{read_items, meaning_of_items}
 use Rattle.iscc.specs.Doors.{payload, items_of_text, meaning_of_text, code_bytes, read_code}
 use Rattle.iscc.specs.Representation.{code_read_as}
-use Rattle.iscc.specs.declared.code.CodeRead.{CodeRead}
-use Rattle.iscc.specs.declared.code.CodeAnswer.TheVariants as coded
-use Rattle.iscc.specs.declared.written.Written.TheVariants as written
+use Rattle.iscc.specs.Representation.{CodeRead}
+use Rattle.iscc.specs.declared.code.Code.{Code}
+use Rattle.iscc.specs.declared.refusal.DetailedRefusal.{DetailedRefusal}
 use Rattle.iscc.proofs.Codes.{code-size}
 use Rattle.composite.specs.Canonical.{detail_of, canonical_bytes}
 use Rattle.payload.specs.Payloads.{payload_detail, payload_answer_as}
-use Rattle.payload.specs.declared.reader.PayloadAnswer.{PayloadAnswer}
-use Rattle.payload.specs.declared.reader.PayloadAnswer.TheVariants as payload
+use Rattle.payload.specs.Payloads.{PayloadAnswer}
 use Rattle.payload.proofs.Payloads.{payload-fits, payload-long}
 use Rattle.door.specs.Codes.{code_detail}
 use Rattle.door.proofs.Answers.{Held, Told, told, payload-held, payload-not, code-held, code-not}
@@ -52,10 +51,10 @@ module _ (t : List ℕ) (r : PayloadAnswer) (answer : r ≡ payload_answer_as (p
   told-as : r ≡ payload_answer_as (payload_detail t) (payload t)
   told-as = answer ∙ ap (payload_answer_as (payload_detail t)) (payload-fits t)
 
-  pub none_found : (q : Refusal) (p : ℕ) (s : CodeRead) → r ≡ payload.Refused q p → s ≡ code_read_as p (refuse q) → s ≡ code_read_as (code_detail t) (code_bytes t)
-  none_found q p s e f = let h = payload-not (payload_detail t) (payload t) q p (sym e ∙ told-as) in f ∙ not_found t q p h.0 h.1
+  pub none_found : (f : DetailedRefusal) → r ≡ Err f → ◌≡◌ {A = CodeRead} (Err f) (code_read_as (code_detail t) (code_bytes t))
+  none_found f e = let h = payload-not (payload_detail t) (payload t) f (sym e ∙ told-as) in not_found t f.refusal f.detail h.0 h.1
 
-  module _ (n : ℕ) (a z : List ℕ) (counted : r ≡ payload.Length n) (after : a ≡ area_after (into 50 (payload t)) z) where
+  module _ (n : ℕ) (a z : List ℕ) (counted : r ≡ Ok n) (after : a ≡ area_after (into 50 (payload t)) z) where
     bytes-are : Held (payload t) a n
     bytes-are = payload-held (payload_detail t) (payload t) n a z (sym counted ∙ told-as) (after ∙ ap (λ (x : Answer (List ℕ)). area_after x z) (payload-fits t))
 
@@ -70,7 +69,7 @@ module _ (t : List ℕ) (r : PayloadAnswer) (answer : r ≡ payload_answer_as (p
 
 -- ---- the call that writes it: 15, then as the code says
 
-pub code-short : (t d : List ℕ) → length d < 42 → Told (read_code t (length d)) d (written.Refused area_too_short) d
+pub code-short : (t d : List ℕ) → length d < 42 → Told (read_code t (length d)) d (Err area_too_short) d
 unfolding read_code
 code-short t d l = rw (lt-leb 42 (length d) l) (refl, refl)
 
@@ -82,34 +81,20 @@ read-code-is t n l = rw (le-leb 42 n l)
 code-most : (t bs : List ℕ) → code_bytes t ≡ accept bs → length bs ≤ 42
 code-most t bs e = (code-size t bs 42 (read-code-is t 42 (omega arith) ∙ e)).1
 
-module _ (t : List ℕ) (k : ℕ) (r : CodeRead) (of : r ≡ code_read_as k (code_bytes t)) where
-  pub code-refused : (d : List ℕ) (q : Refusal) (p : ℕ) → 42 ≤ length d → r.answer ≡ coded.Refused q p → Told (read_code t (length d)) d (written.Refused q) d
-  code-refused d q p room e = told d d _ (read-code-is t (length d) room ∙ code-not k (code_bytes t) r q p of e) (refl, refl)
+module _ (t : List ℕ) (k : ℕ) {r : CodeRead} (of : r ≡ code_read_as k (code_bytes t)) where
+  pub code-refused : (d : List ℕ) (f : DetailedRefusal) → 42 ≤ length d → r ≡ Err f → Told (read_code t (length d)) d (Err f.refusal) d
+  code-refused d f room e = told d d _ (read-code-is t (length d) room ∙ code-not k (code_bytes t) f (sym e ∙ of)) (refl, refl)
 
-  module _ (found : r.answer ≡ coded.Accepted) where
-    abbrev held : List ℕ
-    held = take (r.code.length - 0) r.code.bytes
+  module _ (c : Code) (found : r ≡ Ok c) where
+    module _ (bs : List ℕ) (lent : bs ≡ take c.length c.bytes) where
+      pub code_is : (code_bytes t ≡ accept bs) × (length bs ≤ 42)
+      code_is =
+          let n : c.length - 0 ≡ c.length = omega arith in
+          let h : code_bytes t ≡ accept bs = (code-held k (code_bytes t) c (sym found ∙ of)).0 ∙ ap (λ (j : ℕ). accept (take j c.bytes)) n ∙ ap accept (sym lent) in
+          (h, code-most t bs h)
 
-    pub code_fits : r.code.length ≤ length r.code.bytes
-    code_fits = (code-held k (code_bytes t) r of found).1
+      pub code-room : (d : List ℕ) → 42 ≤ length d → length bs ≤ length d
+      code-room d room = omega (arith, code_is.1)
 
-    pub code_is : (code_bytes t ≡ accept held) × (length held ≤ 42)
-    code_is = let h = (code-held k (code_bytes t) r of found).0 in (h, code-most t held h)
-
-    held-length : length held ≡ r.code.length
-    held-length =
-        let n : r.code.length - 0 ≡ r.code.length = omega arith in
-        ap (λ (j : ℕ). length (take j r.code.bytes)) n ∙ length-take-le r.code.length r.code.bytes code_fits
-
-    pub code-room : (d : List ℕ) → 42 ≤ length d → r.code.length ≤ length d
-    code-room d room = omega (arith, code_is.1, held-length)
-
-    pub code-taken : (d : List ℕ) → 42 ≤ length d → r.code.length ≡ length (take r.code.length d)
-    code-taken d room = sym (length-take-le r.code.length d (code-room d room))
-
-    pub code-part : (d : List ℕ) → 42 ≤ length d → length (take r.code.length d) ≡ length held
-    code-part d room = sym (code-taken d room) ∙ sym held-length
-
-    pub code-written : (d e : List ℕ) → 42 ≤ length d → e ≡ held ++ drop r.code.length d → Told (read_code t (length d)) d (written.Length r.code.length) e
-    code-written d e room f =
-        told d e _ (read-code-is t (length d) room ∙ code_is.0) (ap written.Length (sym held-length), f ∙ ap (λ (j : ℕ). held ++ drop j d) (sym held-length))
+      pub code-written : (d e : List ℕ) → 42 ≤ length d → e ≡ bs ++ drop (length bs) d → Told (read_code t (length d)) d (Ok (length bs)) e
+      code-written d e room f = told d e _ (read-code-is t (length d) room ∙ code_is.0) (refl, f)

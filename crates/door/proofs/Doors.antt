@@ -1,9 +1,9 @@
 -- The doors by the bytes of the code: what intake writes, and what the strict door compares.
+use Rattle.std.specs.Prelude.{Ok, Err}
 use Prim.Native.Nat.{ℕ, ◌-◌, ◌≤◌, ◌<◌}
 use mathlib.Core.Path.{◌≡◌, refl, sym, ◌∙◌, ap}
 use mathlib.Core.Bool.{Bool, true, false, cond}
 use mathlib.Core.List.{List}
-use native.Mathlib.Omega.{arith}
 use lib.ListN.{length, take}
 use borrow.Author.Tests.{le-leb, lt-leb}
 use Rattle.iscc.specs.Refusals.{Refusal, area_too_short, other_text}
@@ -13,14 +13,13 @@ use Rattle.iscc.specs.Item.{item_bytes, item_of}
 use Rattle.iscc.specs.Lists.{same_bytes}
 use Rattle.iscc.specs.Doors.{meaning_of_text, text_of, code_bytes, intake, strict}
 use Rattle.iscc.specs.Representation.{written_as, code_read_as}
-use Rattle.iscc.specs.declared.code.CodeRead.{CodeRead}
-use Rattle.iscc.specs.declared.code.CodeAnswer.TheVariants as coded
-use Rattle.iscc.specs.declared.written.Written.{Written}
-use Rattle.iscc.specs.declared.written.Written.TheVariants as written
+use Rattle.iscc.specs.Representation.{CodeRead}
+use Rattle.iscc.specs.declared.code.Code.{Code}
+use Rattle.iscc.specs.declared.refusal.DetailedRefusal.{DetailedRefusal}
+use Rattle.iscc.specs.Representation.{Written}
 use Rattle.door.specs.Codes.{text_of_code}
 use Rattle.door.specs.Representation.{checked_as, checked_number}
-use Rattle.door.specs.declared.strict.Checked.{Checked}
-use Rattle.door.specs.declared.strict.Checked.TheVariants.{Accepted, Refused}
+use Rattle.door.specs.Representation.{Checked}
 use Rattle.door.proofs.Answers.{Held, Told, told, written_held, written-refused, code-not}
 use Rattle.door.proofs.Codes.{code_is}
 use Rattle.door.proofs.Texts.{text-fits}
@@ -47,14 +46,14 @@ intake-is t area l = rw (le-leb 73 area l) (go (meaning_of_text t))
 -- ---- strict: as intake, then 16
 
 abbrev pub checked_by : List ℕ → Answer (List ℕ) → Checked
-checked_by t (accept out) = cond (same_bytes out t) Accepted (Refused other_text)
-checked_by t (refuse q) = Refused q
+checked_by t (accept out) = cond (same_bytes out t) (Ok tt) (Err other_text)
+checked_by t (refuse q) = Err q
 
 pub strict-is : (t : List ℕ) (area : ℕ) → 73 ≤ area → checked_as (strict t) ≡ checked_by t (intake t area)
 unfolding intake strict
 strict-is t area l = rw (le-leb 73 area l) (go (meaning_of_text t))
   where
-    by : (m : Meaning) (b : Bool) → checked_as (b otherwise other_text >> accept m) ≡ cond b Accepted (Refused other_text)
+    by : (m : Meaning) (b : Bool) → checked_as (b otherwise other_text >> accept m) ≡ cond b (Ok tt) (Err other_text)
     by m true = refl
     by m false = refl
 
@@ -64,28 +63,27 @@ strict-is t area l = rw (le-leb 73 area l) (go (meaning_of_text t))
 
 -- ---- the code by value, and the text that is written of it
 
-pub taken-short : (t d : List ℕ) → length d < 73 → Told (intake t (length d)) d (written.Refused area_too_short) d
+pub taken-short : (t d : List ℕ) → length d < 73 → Told (intake t (length d)) d (Err area_too_short) d
 taken-short t d l = told d d _ (intake-short t (length d) l) (refl, refl)
 
-module _ (t : List ℕ) (k : ℕ) (r : CodeRead) (of : r ≡ code_read_as k (code_bytes t)) where
-  pub taken_refused : (d : List ℕ) (q : Refusal) (p : ℕ) → 73 ≤ length d → r.answer ≡ coded.Refused q p → Told (intake t (length d)) d (written.Refused q) d
-  taken_refused d q p room e = told d d _ (intake-is t (length d) room ∙ ap texted (code-not k (code_bytes t) r q p of e)) (refl, refl)
+module _ (t : List ℕ) (k : ℕ) {r : CodeRead} (of : r ≡ code_read_as k (code_bytes t)) where
+  pub taken_refused : (d : List ℕ) (f : DetailedRefusal) → 73 ≤ length d → r ≡ Err f → Told (intake t (length d)) d (Err f.refusal) d
+  taken_refused d f room e = told d d _ (intake-is t (length d) room ∙ ap texted (code-not k (code_bytes t) f (sym e ∙ of))) (refl, refl)
 
-  module _ (found : r.answer ≡ coded.Accepted) (d : List ℕ) (room : 73 ≤ length d) where
+  module _ (x : Code) (found : r ≡ Ok x) (bs : List ℕ) (lent : bs ≡ take x.length x.bytes) (d : List ℕ) (room : 73 ≤ length d) where
     abbrev own : Answer (List ℕ)
-    own = into (length d) (accept (text_of_code (take r.code.length r.code.bytes)))
+    own = into (length d) (accept (text_of_code bs))
 
     intake-own : own ≡ intake t (length d)
     intake-own =
-        let c = code_is t k r of found in
-        let z : r.code.length ≡ r.code.length - 0 = omega arith in
-        ap (λ (n : ℕ). into (length d) (accept (text_of_code (take n r.code.bytes)))) z ∙ text-fits (take (r.code.length - 0) r.code.bytes) (length d) c.1 room ∙ sym (intake-is t (length d) room ∙ ap texted c.0)
+        let c = code_is t k of x found bs lent in
+        text-fits bs (length d) c.1 room ∙ sym (intake-is t (length d) room ∙ ap texted c.0)
 
     pub taken-answer : (w : Written) → w ≡ written_as own → w ≡ written_as (intake t (length d))
     taken-answer w h = h ∙ ap written_as intake-own
 
     pub taken-area : (e : List ℕ) → e ≡ area_after own d → e ≡ area_after (intake t (length d)) d
-    taken-area e h = h ∙ ap (λ (x : Answer (List ℕ)). area_after x d) intake-own
+    taken-area e h = h ∙ ap (λ (y : Answer (List ℕ)). area_after y d) intake-own
 
 -- ---- the strict door's answer and its number
 
@@ -105,10 +103,10 @@ module _ (t : List ℕ) (area : ℕ) (w : Written) (room : 73 ≤ area) (answer 
   checked-by : {x : Answer (List ℕ)} → intake t area ≡ x → checked_as (strict t) ≡ checked_by t x
   checked-by e = strict-is t area room ∙ ap (checked_by t) e
 
-  pub checked_refused : (q : Refusal) → w ≡ written.Refused q → CheckedAs (strict t) (Refused q)
+  pub checked_refused : (q : Refusal) → w ≡ Err q → CheckedAs (strict t) (Err q)
   checked_refused q e = numbered (strict t) _ (sym (checked-by (written-refused (intake t area) q (sym e ∙ answer))))
 
-  module _ (a z : List ℕ) (n : ℕ) (counted : w ≡ written.Length n) (after : a ≡ area_after (intake t area) z) where
+  module _ (a z : List ℕ) (n : ℕ) (counted : w ≡ Ok n) (after : a ≡ area_after (intake t area) z) where
     own-text : Held (intake t area) a n
     own-text = written_held (intake t area) n a z (sym counted ∙ answer) after
 
@@ -116,8 +114,8 @@ module _ (t : List ℕ) (area : ℕ) (w : Written) (room : 73 ≤ area) (answer 
     own-fits = own-text.1
 
     module _ (b : Bool) (same : b ≡ same_bytes (take (n - 0) a) t) where
-      pub checked-same : b ≡ true → CheckedAs (strict t) Accepted
+      pub checked-same : b ≡ true → CheckedAs (strict t) (Ok tt)
       checked-same e = let f : same_bytes (take (n - 0) a) t ≡ true = sym same ∙ e in numbered (strict t) _ (sym (checked-by own-text.0 ∙ rw f))
 
-      pub checked-other : b ≡ false → CheckedAs (strict t) (Refused other_text)
+      pub checked-other : b ≡ false → CheckedAs (strict t) (Err other_text)
       checked-other e = let f : same_bytes (take (n - 0) a) t ≡ false = sym same ∙ e in numbered (strict t) _ (sym (checked-by own-text.0 ∙ rw f))

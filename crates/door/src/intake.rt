@@ -5,25 +5,17 @@ ghost use Rattle.iscc.specs.Representation.{written_as};
 ghost use Rattle.iscc.specs.Doors as doors;
 
 use crate::{code, text};
-use iscc::code::CodeAnswer;
 use iscc::refusal::Refusal;
-use iscc::written::Written;
 
 // Writes the text to the front of the area. Gives 15 where the area is below 73 bytes, whatever the text; then 2, 1, 3 to 14.
-pub fn intake(text: &[u8], out: &mut [u8]) -> Written
+pub fn intake(text: &[u8], out: &mut [u8]) -> Result<usize, Refusal>
     ensures answer { result ≡ written_as (doors.intake text.now (length out.old)) }
     ensures area { out.new ≡ area_after (doors.intake text.now (length out.old)) out.old }
 {
     if out.len() < text::LONGEST_WRITTEN {
-        return Written::Refused(Refusal::AREA_TOO_SHORT);
+        return Err(Refusal::AreaTooShort);
     }
-    let found = code::read(text);
-    let answer = found.answer;
-    match answer {
-        CodeAnswer::Accepted => {
-            let length = found.code.length;
-            text::write_front(&found.code.bytes, length, out)
-        }
-        CodeAnswer::Refused(q, _) => Written::Refused(q),
-    }
+    let code = code::read(text)?;
+    let bytes = code.as_bytes();
+    text::write(bytes, out)
 }

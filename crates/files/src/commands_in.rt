@@ -1,146 +1,82 @@
 // Standard input by lines. The bytes that were read and not yet served stand in an area; a line that does not fit it is too long for a
 // command, is served as far as it fits, which says so, and is passed over up to its end.
-ghost use Rattle.std.specs.Prelude.{◌≡◌, false, ◌+◌, ◌^◌, ◌<◌, ◌≤◌, length};
+ghost use Rattle.std.specs.Prelude.{◌≤◌, ◌+◌};
 
-use crate::say;
 use lines::scan::line_length;
 use std::io::{ErrorKind, Read};
+use std::mem;
+use streams::{Told, fail};
 
-// What stands in the area from start to end; whether the input has ended, or could not be read; whether the rest of a line is passed over.
-#[derive(Clone, Copy)]
+// The bytes of standard input that are held at a time.
+const ROOM: usize = 65536;
+
+// What stands in the area from start to end; whether the input has ended; whether the rest of a line is passed over.
+#[derive(Drop)]
 pub struct Input {
-    pub start: usize,
-    pub end: usize,
-    pub ended: bool,
-    pub failed: bool,
-    pub passing: bool,
+    area: [u8; ROOM],
+    start: usize,
+    end: usize,
+    has_ended: bool,
+    passes: bool,
+    ghost ordered: { start ≤ end },
+    ghost within: { end ≤ 65536 },
 }
 
-// What is to be done next: a line that stands from `from` to `to` is served, or not.
-#[derive(Clone, Copy)]
-pub struct Step {
-    pub serves: bool,
-    pub from: usize,
-    pub to: usize,
-    pub input: Input,
-}
-
-pub fn begin() -> Input
-    ensures { (result.start ≤ result.end) × (result.end ≤ 0) }
-{
-    Input {
-        start: 0,
-        end: 0,
-        ended: false,
-        failed: false,
-        passing: false,
-    }
-}
-
-// Moves a part of the area to its front.
-fn move_down(area: &mut [u8], start: usize, end: usize)
-    requires start_le_end { start ≤ end }
-    requires end_in_bounds { end ≤ length area.old }
-    ensures { length area.new ≡ length area.old }
-{
-    let mut i = 0;
-    while i < end - start {
-        area[i] = area[start + i];
-        i += 1;
-    }
-}
-
-// Behind a read: so many more bytes stand there, or the input has ended, or could not be read.
-fn filled(held: usize, count: usize, ended: bool, failed: bool, passing: bool) -> Step
-    requires { held + count < 2 ^ 64 }
-    ensures step { (result.serves ≡ false) × (result.from ≡ 0) × (result.to ≡ 0) }
-    ensures input { (result.input.start ≡ 0) × (result.input.end ≡ held + count) }
-{
-    Step {
-        serves: false,
-        from: 0,
-        to: 0,
-        input: Input {
-            start: 0,
-            end: held + count,
-            ended: ended,
-            failed: failed,
-            passing: passing,
-        },
-    }
-}
-
-// Reads behind what is there, which is moved to the front. A read that a signal interrupted adds nothing, and is made again.
-fn fill(rt: &HostRuntime, area: &mut [u8], start: usize, end: usize, passing: bool) -> Step
-    requires start_le_end { start ≤ end }
-    requires end_in_bounds { end ≤ length area.old }
-    ensures { (result.from ≤ result.to) × (result.to ≤ length area.old) × (result.input.start ≤ result.input.end) × (result.input.end ≤ length area.old) × (length area.new ≡ length area.old) }
-{
-    move_down(area, start, end);
-    let held = end - start;
-    match rt.stdin().read(&mut area[held..]) {
-        Ok(count) => filled(held, count, count == 0, false, passing),
-        Err(error) => {
-            if error.kind() == ErrorKind::Interrupted {
-                return filled(held, 0, false, false, passing);
-            }
-            say::fail(rt, b"cannot read the commands", error);
-            filled(held, 0, false, true, passing)
-        }
-    }
-}
-
-// The next line, or what is to be read before there is one.
-pub fn next(rt: &HostRuntime, area: &mut [u8], input: Input) -> Step
-    requires start_le_end { input.start ≤ input.end }
-    requires end_in_bounds { input.end ≤ length area.old }
-    ensures { (result.from ≤ result.to) × (result.to ≤ length area.old) × (result.input.start ≤ result.input.end) × (result.input.end ≤ length area.old) × (length area.new ≡ length area.old) }
-{
-    let start = input.start;
-    let end = input.end;
-    let held = end - start;
-    let n = line_length(&area[start..end]);
-    if n < held {
-        return Step {
-            serves: !input.passing,
-            from: start,
-            to: start + n,
-            input: Input {
-                start: start + n + 1,
-                end: end,
-                ended: input.ended,
-                failed: false,
-                passing: false,
-            },
-        };
-    }
-    if input.ended {
-        return Step {
-            serves: !input.passing,
-            from: start,
-            to: end,
-            input: Input {
-                start: end,
-                end: end,
-                ended: true,
-                failed: false,
-                passing: false,
-            },
-        };
-    }
-    if held < area.len() {
-        return fill(rt, area, start, end, input.passing);
-    }
-    Step {
-        serves: !input.passing,
-        from: start,
-        to: end,
-        input: Input {
+impl Input {
+    pub fn new() -> Self {
+        Input {
+            area: [0; ROOM],
             start: 0,
             end: 0,
-            ended: false,
-            failed: false,
-            passing: true,
-        },
+            has_ended: false,
+            passes: false,
+        }
+    }
+
+    // Reads behind what is there, which is moved to the front. A read that a signal interrupted adds nothing, and is made again.
+    fn fill(&mut self, rt: &HostRuntime) -> Result<(), Told> {
+        self.area.copy_within(self.start..self.end, 0);
+        self.end -= self.start;
+        self.start = 0;
+        match rt.stdin().read(&mut self.area[self.end..]) {
+            Ok(0) => self.has_ended = true,
+            Ok(count) => self.end += count,
+            Err(error) if error.kind() == ErrorKind::Interrupted => {}
+            Err(error) => return Err(fail(rt, b"cannot read the commands", error)),
+        }
+        Ok(())
+    }
+
+    // The next line that is to be served; None at the end of the input. A proved loop has to end, so it has a number of turns that no
+    // run uses up.
+    pub fn next_line(&mut self, rt: &HostRuntime) -> Result<Option<&[u8]>, Told> {
+        for _ in 0..u64::MAX {
+            let start = self.start;
+            let end = self.end;
+            let length = line_length(&self.area[start..end]);
+            if length < end - start {
+                self.start = start + length + 1;
+                if !mem::replace(&mut self.passes, false) {
+                    return Ok(Some(&self.area[start..start + length]));
+                }
+            } else if self.has_ended {
+                if length == 0 {
+                    return Ok(None);
+                }
+                self.start = end;
+                if !self.passes {
+                    return Ok(Some(&self.area[start..end]));
+                }
+            } else if length < ROOM {
+                self.fill(rt)?;
+            } else {
+                self.start = 0;
+                self.end = 0;
+                if !mem::replace(&mut self.passes, true) {
+                    return Ok(Some(&self.area));
+                }
+            }
+        }
+        Ok(None)
     }
 }

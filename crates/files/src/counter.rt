@@ -1,203 +1,130 @@
 // The counter's program: a folder with its register and its log, and the commands on it.
-use crate::arguments::{ROOM, Word, is_given, read_word};
-use crate::parts::front;
-use crate::register_file::Loaded;
-use crate::say::{DONE, FAILED, REFUSED};
-use crate::{log_file, parts, register_file, say, start, work};
+use crate::arguments::{Word, is_given, word};
+use crate::buffer::Buffer;
+use crate::log_file::Access;
+use crate::register_file::Old;
+use crate::say::Outcome;
+use crate::{log_file, register_file, say, start, work};
 use commands::command;
-use commands::command::Kind;
+use commands::command::Command;
 use hall::standby;
 use loans::layout::REGISTER_LENGTH;
-use octets::compare::same;
 use pending_log::replay::Replayed;
-use std::fs::File;
+use std::env::FillError;
 use std::io::ErrorKind;
-
-// One command, on a register that was read.
-fn serve_one(rt: &HostRuntime, name: &[u8], line: &[u8], area: &mut [u8], writes: bool) -> u8 {
-    let Some(log) = start::open(rt, name, writes) else {
-        return FAILED;
-    };
-    let opened = start::start(rt, &log, area, writes);
-    if opened.status == FAILED {
-        return FAILED;
-    }
-    let saved = opened.saved;
-    let status = work::serve(rt, &log, line, area, opened).status;
-    if writes {
-        if status != FAILED {
-            start::keep(rt, name, area, saved);
-        }
-    }
-    status
-}
+use streams::{Told, fail, tell};
 
 // One command that was given as arguments.
-fn run_one(rt: &HostRuntime, name: &[u8], line: &[u8]) -> u8 {
-    let mut space = [0u8; REGISTER_LENGTH + 1];
-    let kind = command::read(line).kind;
-    let writes = match kind {
-        Kind::Ask => false,
-        Kind::Sheet => false,
-        _ => true,
+fn run_one(rt: &HostRuntime, name: &[u8], line: &[u8]) -> Result<Outcome, Told> {
+    let access = match command::read(line) {
+        Ok(Command::Ask { .. }) => Access::Read,
+        Ok(Command::Sheet) => Access::Read,
+        _ => Access::Write,
     };
-    if !start::load(rt, name, &mut space) {
-        return FAILED;
+    let mut area = start::load(rt, name)?;
+    let mut log = start::start(rt, name, &mut area, access)?;
+    let outcome = work::serve(rt, &mut log, line, &mut area)?;
+    if access == Access::Write {
+        log.keep(rt, name, &area);
     }
-    serve_one(rt, name, line, &mut space[0..REGISTER_LENGTH], writes)
-}
-
-// The commands of standard input, on a register that was read.
-fn serve_many(rt: &HostRuntime, name: &[u8], area: &mut [u8]) -> u8 {
-    let Some(log) = start::open(rt, name, true) else {
-        return FAILED;
-    };
-    let opened = start::start(rt, &log, area, true);
-    if opened.status == FAILED {
-        return FAILED;
-    }
-    let saved = opened.saved;
-    let status = work::serve_all(rt, &log, area, opened).status;
-    if status != FAILED {
-        start::keep(rt, name, area, saved);
-    }
-    status
+    Ok(outcome)
 }
 
 // The commands of standard input.
-fn run_all(rt: &HostRuntime, name: &[u8]) -> u8 {
-    let mut space = [0u8; REGISTER_LENGTH + 1];
-    if !start::load(rt, name, &mut space) {
-        return FAILED;
-    }
-    serve_many(rt, name, &mut space[0..REGISTER_LENGTH])
+fn run_all(rt: &HostRuntime, name: &[u8]) -> Result<Outcome, Told> {
+    let mut area = start::load(rt, name)?;
+    let mut log = start::start(rt, name, &mut area, Access::Write)?;
+    let outcome = work::serve_all(rt, &mut log, &mut area)?;
+    log.keep(rt, name, &area);
+    Ok(outcome)
 }
 
 // An empty register and an empty log, where there is neither.
-fn begin(rt: &HostRuntime, name: &[u8]) -> u8 {
-    let mut space = [0u8; REGISTER_LENGTH + 1];
-    match register_file::load(rt, name, &mut space) {
-        Loaded::Missing => {}
-        Loaded::Length(_) => {
-            return say::refuse_text(rt, b"refused: There is a register already.");
-        }
-        Loaded::Failed => {
-            return FAILED;
-        }
+fn begin(rt: &HostRuntime, name: &[u8]) -> Result<Outcome, Told> {
+    if register_file::load(rt, name)?.is_some() {
+        say::answer_text(rt, b"refused: There is a register already.")?;
+        return Ok(Outcome::Refused);
     }
-    if let Err(error) = log_file::create(rt, name) {
-        if error.kind() == ErrorKind::AlreadyExists {
-            return say::refuse_text(
+    match log_file::create(rt, name) {
+        Ok(()) => {}
+        Err(error) if error.kind() == ErrorKind::AlreadyExists => {
+            say::answer_text(
                 rt,
                 b"refused: There is a log already: rebuild makes its register.",
-            );
+            )?;
+            return Ok(Outcome::Refused);
         }
-        say::fail(rt, b"cannot make the log", error);
-        return FAILED;
+        Err(error) => return Err(fail(rt, b"cannot make the log", error)),
     }
     let area = [0u8; REGISTER_LENGTH];
-    if register_file::save(rt, name, &area, false) {
-        return say::answer_text(rt, b"begun: nothing is out");
-    }
-    FAILED
+    register_file::save(rt, name, &area, Old::Overwritten)?;
+    say::answer_text(rt, b"begun: nothing is out")?;
+    Ok(Outcome::Done)
 }
 
 // The register made anew from the log; the old file keeps its bytes under another name.
-fn rebuild(rt: &HostRuntime, name: &[u8]) -> u8 {
-    let Some(log) = start::open(rt, name, false) else {
-        return FAILED;
-    };
-    rebuild_from(rt, name, &log)
-}
-
-fn rebuild_from(rt: &HostRuntime, name: &[u8], log: &File) -> u8 {
+fn rebuild(rt: &HostRuntime, name: &[u8]) -> Result<Outcome, Told> {
+    let log = log_file::open(rt, name, Access::Read)?;
     let mut area = [0u8; REGISTER_LENGTH];
-    let read = log_file::replay(rt, log, &mut area);
-    if read.unread {
-        return FAILED;
-    }
-    if !log_file::sync(rt, log) {
-        return FAILED;
-    }
-    let end = read.end;
-    let goes_on = match end {
-        Replayed::Ended => true,
-        Replayed::Torn(_) => true,
-        Replayed::Stopped(_, _) => false,
-        Replayed::Refused(_) => false,
-    };
-    if goes_on {
-        if !register_file::save(rt, name, &area, true) {
-            return FAILED;
+    let end = log_file::replay(rt, &log, &mut area)?.end;
+    log_file::sync(rt, &log)?;
+    let outcome = match end {
+        Replayed::Ended | Replayed::Torn(_) => {
+            register_file::save(rt, name, &area, Old::SetAside)?;
+            Outcome::Done
         }
-    }
-    if !say::answer(rt, standby::replay_line(end, &area)) {
-        return FAILED;
-    }
-    if goes_on { DONE } else { REFUSED }
+        Replayed::Stopped(_, _) | Replayed::Refused(_) => Outcome::Refused,
+    };
+    say::answer(rt, standby::replay_line(end, &area))?;
+    Ok(outcome)
 }
 
-// The command that the arguments behind the folder are, with a blank between two of them; a length that no command has where they do
-// not fit.
-fn joined(rt: &HostRuntime, line: &mut [u8]) -> usize {
-    let mut end = 0;
+// The command that the arguments behind the folder are, with a blank behind each; a length that no command has where they do not fit.
+fn joined(rt: &HostRuntime) -> Word {
+    let mut line = Buffer::new();
     for i in 2..usize::MAX {
-        let mut area = [0u8; ROOM];
-        match read_word(rt, i, &mut area) {
-            Word::Missing => return end,
-            Word::TooLong => return line.len(),
-            Word::Length(n) => {
-                let behind = parts::put(line, end, front(&area, n));
-                end = parts::put(line, behind, b" ");
+        match word(rt, i) {
+            Ok(part) => {
+                line.push(part.as_bytes());
+                line.push(b" ");
+            }
+            Err(FillError::NotPresent) => break,
+            Err(FillError::TooLong) => {
+                line.push(&[0; 4096]);
+                break;
             }
         }
     }
-    end
+    line
 }
 
-fn by_line(rt: &HostRuntime, name: &[u8], line: &[u8]) -> u8 {
-    if same(line, b"new ") {
-        return begin(rt, name);
+fn by_line(rt: &HostRuntime, name: &[u8], line: &[u8]) -> Result<Outcome, Told> {
+    match line {
+        b"new " => begin(rt, name),
+        b"rebuild " => rebuild(rt, name),
+        _ => run_one(rt, name, line),
     }
-    if same(line, b"rebuild ") {
-        return rebuild(rt, name);
-    }
-    run_one(rt, name, line)
 }
 
 // The folder is the first argument, and the others are the command; without one the program reads commands.
-fn by_folder(rt: &HostRuntime, name: &[u8]) -> u8 {
-    if !is_given(rt, 2) {
-        return run_all(rt, name);
+fn by_folder(rt: &HostRuntime, name: &[u8]) -> Result<Outcome, Told> {
+    if is_given(rt, 2) {
+        return by_line(rt, name, joined(rt).as_bytes());
     }
-    let mut line = [0u8; ROOM];
-    let end = joined(rt, &mut line);
-    by_line(rt, name, front(&line, end))
-}
-
-fn usage(rt: &HostRuntime) -> u8 {
-    say::tell(rt, b"usage: counter FOLDER [COMMAND]");
-    FAILED
+    run_all(rt, name)
 }
 
 // What the run comes to, where it can be told.
-fn status(rt: &HostRuntime) -> u8 {
-    if !say::can_answer(rt) {
-        return FAILED;
+fn outcome(rt: &HostRuntime) -> Result<Outcome, Told> {
+    say::can_answer(rt)?;
+    let name = word(rt, 1).unwrap_or(Buffer::new());
+    if name.as_bytes().is_empty() {
+        return Err(tell(rt, b"usage: counter FOLDER [COMMAND]"));
     }
-    let mut name = [0u8; ROOM];
-    match read_word(rt, 1, &mut name) {
-        Word::Length(n) => {
-            if n == 0 {
-                return usage(rt);
-            }
-            by_folder(rt, front(&name, n))
-        }
-        _ => usage(rt),
-    }
+    by_folder(rt, name.as_bytes())
 }
 
 // The whole program.
 pub fn run(rt: HostRuntime) {
-    say::close(&rt, status(&rt));
+    say::close(&rt, outcome(&rt));
 }

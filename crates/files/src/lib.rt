@@ -3,12 +3,12 @@
 #![tactic(auto)]
 
 mod arguments;
+mod buffer;
 mod bytes_at;
 mod commands_in;
 pub mod counter;
 mod folder;
 mod log_file;
-mod parts;
 mod register_file;
 mod say;
 pub mod standby;

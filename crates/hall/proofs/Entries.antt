@@ -10,8 +10,10 @@ use borrow.Author.Tests.{ne_eqb, le-leb}
 use Rattle.iscc.specs.Answer.{Answer, accept, is_accepted}
 use Rattle.iscc.specs.Digits.{digits}
 use Rattle.iscc.specs.Doors.{code_bytes}
-use Rattle.iscc.specs.Representation.{code_read_as}
-use Rattle.iscc.specs.declared.code.CodeRead.{CodeRead}
+use Rattle.std.specs.Prelude.{Result, Ok, is_ok}
+use Rattle.iscc.specs.Refusals.{Refusal}
+use Rattle.iscc.specs.Representation.{CodeRead, code_as, code_read_as}
+use Rattle.iscc.specs.declared.code.Code.{Code}
 use Rattle.iscc.proofs.Answer.{accept-inj}
 use Rattle.iscc.proofs.Digits.{length_digits}
 use Rattle.door.proofs.Answers.{Held, code-held}
@@ -26,7 +28,6 @@ use Rattle.loans.proofs.Loan.{accepted-by, code_in}
 use Rattle.loans.proofs.Records.{body-length}
 use Rattle.loans.proofs.Fields.{length-field}
 use Rattle.pending_log.specs.Representation.{appended_as}
-use Rattle.pending_log.specs.declared.append.Appended.{Appended}
 use Rattle.answers.specs.Answers.{value_of}
 use Rattle.hall.specs.Serving.{code_of_typed}
 use Rattle.hall.specs.Said.{record_bytes}
@@ -34,9 +35,9 @@ use Rattle.hall.specs.Said.{record_bytes}
 -- ---- a record in front of an area of 53 bytes
 
 -- what the code tells of it, and what its contract says
-abbrev Appends : ℕ → Change → List ℕ → Appended → List ℕ → Type 0
+abbrev Appends : ℕ → Change → List ℕ → Result ℕ Refusal → List ℕ → Type 0
 Appends number ch log a d =
-    (a ≡ appended_as 0 (write_record (record { number = number; change = ch }) log 0))
+    (a ≡ appended_as (write_record (record { number = number; change = ch }) log 0))
     × (d ≡ (written_after log 0 (write_record (record { number = number; change = ch }) log 0)).log)
 
 abbrev Put : ℕ → Change → List ℕ → ℕ → List ℕ → Type 0
@@ -62,9 +63,13 @@ module _ (number : ℕ) (some : 0 < number) (ch : Change) (good : GoodChange ch)
       let f : leb (length bytes) (length log) ≡ true = le-leb (length bytes) (length log) (omega (arith, fits, room)) in
       rw (one, z, p, f)
 
-  put : (a : Appended) (d : List ℕ) → Appends number ch log a d → Put number ch log a.position d
-  put a d t =
-      let n : a.position ≡ length bytes = ap (λ (x : Appended). x.position) (t.0 ∙ ap (appended_as 0) written) in
+  accepted-there : (a : Result ℕ Refusal) (d : List ℕ) → Appends number ch log a d → a ≡ Ok (length bytes)
+  accepted-there a d t = t.0 ∙ ap appended_as written
+
+  put : (a : Result ℕ Refusal) (d : List ℕ) → Appends number ch log a d → (n : ℕ) → a ≡ Ok n → Put number ch log n d
+  put a d t n e =
+      let s = accepted-there a d t in
+      let n : n ≡ length bytes = cc in
       (n, t.1 ∙ ap (λ (x : Answer Written). (written_after log 0 x).log) written ∙ ap (λ (k : ℕ). bytes ++ drop k log) (sym n))
 
 -- ---- the code of a text that was accepted, as it is handed over
@@ -72,33 +77,50 @@ module _ (number : ℕ) (some : 0 < number) (ch : Change) (good : GoodChange ch)
 value-accepted : (x : Answer (List ℕ)) → is_accepted x ≡ true → x ≡ accept (value_of x)
 value-accepted x e = let r = accepted-by x e in r.1 ∙ ap accept (sym (ap value_of r.1))
 
-module _ (t : List ℕ) (k : ℕ) (r : CodeRead) (of : r ≡ code_read_as k (code_bytes t)) (ok : is_accepted (code_bytes t) ≡ true) where
-  typed : code_bytes t ≡ accept (code_of_typed t)
-  typed = value-accepted (code_bytes t) ok
+typed : (t : List ℕ) → is_accepted (code_bytes t) ≡ true → code_bytes t ≡ accept (code_of_typed t)
+typed t ok = value-accepted (code_bytes t) ok
 
+-- the text's code is read
+pub is-read : (t : List ℕ) (k : ℕ) {r : CodeRead} → r ≡ code_read_as k (code_bytes t) → is_accepted (code_bytes t) ≡ true → r ≡ Ok (code_as (code_of_typed t))
+is-read t k e ok = e ∙ ap (code_read_as k) (typed t ok)
+
+pub value-is : (t : List ℕ) (k : ℕ) {r : CodeRead} (c : Code) → r ≡ code_read_as k (code_bytes t) → is_accepted (code_bytes t) ≡ true → r ≡ Ok c → c ≡ code_as (code_of_typed t)
+value-is t k c e ok f = let s = is-read t k e ok in cc
+
+module _ (t : List ℕ) (c : Code) (of : c ≡ code_as (code_of_typed t)) (ok : is_accepted (code_bytes t) ≡ true) where
   is_code : IsCode (code_of_typed t)
-  is_code = code_in t (code_of_typed t) typed
+  is_code = code_in t (code_of_typed t) (typed t ok)
 
-  held : Held (code_bytes t) r.code.bytes r.code.length
-  held = code-held k (code_bytes t) r of (ap (λ (s : CodeRead). s.answer) of ∙ ap (λ (x : Answer (List ℕ)). (code_read_as k x).answer) typed)
+  held : Held (accept (code_of_typed t)) c.bytes c.length
+  held = code-held 0 (accept (code_of_typed t)) c (ap Ok of)
 
-  pub code_fits : r.code.length ≤ length r.code.bytes
+  pub code_fits : c.length ≤ length c.bytes
   code_fits = held.1
 
   abbrev handed : List ℕ
-  handed = take (r.code.length - 0) r.code.bytes
+  handed = take (c.length - 0) c.bytes
 
   handed-is : handed ≡ code_of_typed t
-  handed-is = accept-inj (sym held.0 ∙ typed)
+  handed-is = accept-inj (sym held.0)
 
-  module _ (number : ℕ) (some : 0 < number) (log : List ℕ) (room : length log ≡ 53) (a : Appended) (d : List ℕ) where
-    pub issue-put : (b : ℕ) → b < 4294967296 → Appends number (issue_code handed b) log a d
-        → Put number (issue_code (code_of_typed t) b) log a.position d
-    issue-put b h e =
+  module _ (number : ℕ) (some : 0 < number) (log : List ℕ) (room : length log ≡ 53) (a : Result ℕ Refusal) (d : List ℕ) where
+    pub issue-written : (b : ℕ) → b < 4294967296 → Appends number (issue_code handed b) log a d → is_ok a ≡ true
+    issue-written b h e =
+        ap is_ok (accepted-there number some (issue_code (code_of_typed t) b) (record { code = is_code; borrower = h }) is_code.one log room a d
+        (subst (λ (c : List ℕ). Appends number (issue_code c b) log a d) handed-is e))
+
+    pub return-written : Appends number (return_code handed) log a d → is_ok a ≡ true
+    return-written e =
+        ap is_ok (accepted-there number some (return_code (code_of_typed t)) is_code is_code.one log room a d
+        (subst (λ (c : List ℕ). Appends number (return_code c) log a d) handed-is e))
+
+    pub issue-put : (b : ℕ) → b < 4294967296 → Appends number (issue_code handed b) log a d → (n : ℕ) → a ≡ Ok n
+        → Put number (issue_code (code_of_typed t) b) log n d
+    issue-put b h e n w =
         put number some (issue_code (code_of_typed t) b) (record { code = is_code; borrower = h }) is_code.one log room a d
-        (subst (λ (c : List ℕ). Appends number (issue_code c b) log a d) handed-is e)
+        (subst (λ (c : List ℕ). Appends number (issue_code c b) log a d) handed-is e) n w
 
-    pub return-put : Appends number (return_code handed) log a d → Put number (return_code (code_of_typed t)) log a.position d
-    return-put e =
+    pub return-put : Appends number (return_code handed) log a d → (n : ℕ) → a ≡ Ok n → Put number (return_code (code_of_typed t)) log n d
+    return-put e n w =
         put number some (return_code (code_of_typed t)) is_code is_code.one log room a d
-        (subst (λ (c : List ℕ). Appends number (return_code c) log a d) handed-is e)
+        (subst (λ (c : List ℕ). Appends number (return_code c) log a d) handed-is e) n w

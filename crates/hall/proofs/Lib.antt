@@ -1,5 +1,4 @@
 -- The laws that the proofs of this crate's functions cite.
-pub mod Named
 pub mod LineLengths
 pub mod SheetLines
 pub mod StandbyLines

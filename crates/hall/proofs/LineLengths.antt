@@ -1,9 +1,9 @@
 -- No line is cut.
+use Rattle.iscc.specs.Refusals.{refusal_number}
 use Prim.Native.Nat.{ℕ, ◌≤◌}
-use mathlib.Core.Path.{◌≡◌, ap}
 use mathlib.Core.List.{List, ◌++◌}
 use native.Mathlib.Omega.{arith}
-use lib.ListN.{length, take, length-append, length-take}
+use lib.ListN.{length, length-append}
 use Rattle.iscc.specs.Ascii.{ascii}
 use Rattle.iscc.specs.Refusals.{Refusal}
 use Rattle.loans.specs.Numbered.{Contents}
@@ -34,12 +34,10 @@ length-torn s offset = simp length-append (omega (arith, length-replayed s, leng
 
 -- a refusal with its place
 pub length-numbered : (q : Refusal) (w : List ℕ) → length w ≤ 78 → length (numbered q w) ≤ 167
-length-numbered q w h = simp length-append (omega (arith, length-decimal q.number, length-sentence q.number))
+length-numbered q w h = simp length-append (omega (arith, length-decimal (refusal_number q), length-sentence (refusal_number q)))
 
 pub length_at : (offset : ℕ) → length (ascii " at byte " ++ in_decimal offset) ≤ 78
 length_at offset = simp length-append (omega (arith, length-decimal offset))
 
-pub length-for : (area t : List ℕ) (n : ℕ) → take n area ≡ t → n ≤ 73 → length (ascii " for " ++ t) ≤ 78
-length-for area t n e h =
-    let k : length (take n area) ≤ 73 = simp length-take (omega arith) in
-    simp length-append (omega (arith, ap length e))
+pub length-for : (t : List ℕ) → length t ≤ 73 → length (ascii " for " ++ t) ≤ 78
+length-for t h = simp length-append (omega arith)

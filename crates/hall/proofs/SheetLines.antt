@@ -5,12 +5,11 @@ use mathlib.Core.Bool.{Bool, true, false}
 use mathlib.Core.List.{List, [], ◌∷◌, map}
 use native.Mathlib.Omega.{arith}
 use lib.ListN.{length, get_or, length-map, get_or-eq_default}
-use Rattle.iscc.specs.Answer.{accept}
 use Rattle.loans.specs.Loan.{Loan}
 use Rattle.loans.specs.Counts as tallies
 use Rattle.loans.specs.Halving.{loan_in}
-use Rattle.loans.specs.Contents.{is_register, contents_of, counts_asked}
-use Rattle.register.specs.Representation.{counts_as}
+use Rattle.loans.specs.Contents.{is_register, contents_of}
+use Rattle.register.specs.Representation.{counts_of}
 use Rattle.register.specs.declared.answer.Counts.{Counts}
 use Rattle.answers.specs.Answers.{out_line, counts_line}
 use Rattle.hall.specs.Sheet.{text_of_bytes, loan_line, sheet_lines}
@@ -20,12 +19,8 @@ use Rattle.hall.specs.Sheet.{text_of_bytes, loan_line, sheet_lines}
 abbrev pub numbers_in : Counts → List ℕ
 numbers_in n = n.out ∷ n.meta ∷ n.semantic ∷ n.content ∷ n.«data» ∷ n.instance ∷ n.iscc ∷ n.id ∷ []
 
-pub counts-told : (area : List ℕ) (n : Counts) → is_register area ≡ true → n ≡ counts_as (counts_asked area)
-    → counts_line (numbers_in n) ≡ counts_line (tallies.counts (contents_of area).loans)
-unfolding counts_asked
-counts-told area n v e =
-    let k : counts_as (counts_asked area) ≡ counts_as (accept (tallies.counts (contents_of area).loans)) = rw v in
-    ap (λ (m : Counts). counts_line (numbers_in m)) (e ∙ k)
+pub counts-told : (n : Counts) (ns : List ℕ) → n ≡ counts_of ns → counts_line (numbers_in n) ≡ counts_line (numbers_in (counts_of ns))
+counts-told n ns e = ap (λ (m : Counts). counts_line (numbers_in m)) e
 
 -- ---- a code out
 

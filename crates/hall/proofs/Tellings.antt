@@ -1,10 +1,11 @@
 -- What the code tells of a call: of a change that was made, of an answer, of a refusal.
-use Prim.Native.Nat.{ℕ, ◌-◌, ◌<◌}
+use Rattle.std.specs.Prelude.{Ok, Err}
+use Prim.Native.Nat.{ℕ, ◌<◌}
 use mathlib.Core.Path.{◌≡◌, refl, sym, ◌∙◌, ap, subst}
 use mathlib.Core.Bool.{Bool, true, false}
 use mathlib.Core.List.{List, [], ◌++◌}
 use native.Mathlib.Omega.{arith}
-use lib.ListN.{length, take, drop, get_or}
+use lib.ListN.{length, drop, get_or}
 use Rattle.iscc.specs.Refusals.{Refusal, not_register}
 use Rattle.iscc.specs.Answer.{Answer, accept, refuse, is_accepted, ◌>>=◌}
 use Rattle.iscc.specs.Digits.{Below}
@@ -20,18 +21,15 @@ use Rattle.loans.proofs.Loan.{code_in}
 use Rattle.loans.proofs.Numbered.{taken}
 use Rattle.loans.proofs.Contents.{register-sound, applied-good}
 use Rattle.register.specs.Representation.{changed_as, holder_as}
-use Rattle.register.specs.declared.answer.Changed.{Changed}
-use Rattle.register.specs.declared.answer.Changed.TheVariants as changes
-use Rattle.register.specs.declared.answer.Holder.{Holder}
-use Rattle.register.specs.declared.answer.Holder.TheVariants as holders
-use Rattle.answers.specs.Answers.{text_in, issued_line, returned_line, out_line, refused_line}
-use Rattle.answers.specs.declared.line.Line.{Line}
+use Rattle.register.specs.Representation.{Changed}
+use Rattle.register.specs.Representation.{Holder}
+use Rattle.answers.specs.Answers.{refused_line}
 use Rattle.hall.specs.Serving as serving
 use Rattle.hall.specs.Serving.{text_of_typed, not_served, issue_served, return_served, ask_served, sheet_served, call_served}
-use Rattle.hall.specs.Said.{Said, Tells, Recordable, made_as, issued_as, returned_as}
+use Rattle.hall.specs.Said.{Said, Tells, Recordable, entry_size, issued_as, returned_as}
 use Rattle.hall.specs.Sheet.{sheet_lines}
+use Rattle.hall.specs.declared.serving.Outcome.TheVariants as outcomes
 use Rattle.hall.specs.declared.serving.Served.{Served}
-use Rattle.hall.proofs.Named.{shown}
 
 -- ---- nothing that is told depends on the area
 
@@ -48,54 +46,24 @@ tells_at area x = record { said = said_at area x.said; bytes = x.bytes }
 -- without a record the area for one stays
 pub none-put : {s : serving.Served} {r : Served} (entry : List ℕ) → s.entry ≡ [] → Said s r → Tells s r entry entry
 none-put {s} {r} entry e x =
-    let z : r.entry ≡ 0 = x.size ∙ ap length e in
-    record { said = x; bytes = sym (ap (λ (bs : List ℕ). bs ++ drop r.entry entry) e ∙ ap (λ (k : ℕ). drop k entry) z) }
-
--- ---- a line and a record
-
-abbrev with_line : Line → ℕ → Served
-with_line l n = record { line = l; entry = n; refused = false; sheet = false }
-
-made_told : (answer bytes entry entry' : List ℕ) (l : Line) (n : ℕ) (r : Served) → text_in l ≡ answer
-    → (n ≡ length bytes) × (entry' ≡ bytes ++ drop n entry)
-    → r ≡ with_line l n → Tells (made_as answer bytes) r entry entry'
-made_told answer bytes entry entry' l n r a b e =
-    subst (λ (x : Served). Tells (made_as answer bytes) x entry entry') (sym e)
-    (record { said = record { answer = a; refused = refl; sheet = refl; size = b.0 }; bytes = b.1 })
-
-module _ (t name : List ℕ) (m : ℕ) (named : take m name ≡ text_of_typed t) (l : Line) (r : Served) where
-  module _ (n number : ℕ) (entry entry' : List ℕ) (e : r ≡ with_line l n) where
-    pub issue-made : (b : ℕ) → text_in l ≡ issued_line (take (m - 0) name) b number
-        → (n ≡ length (issued_as t b number).entry) × (entry' ≡ (issued_as t b number).entry ++ drop n entry)
-        → Tells (issued_as t b number) r entry entry'
-    issue-made b a p =
-        made_told _ _ entry entry' l n r (a ∙ ap (λ (x : List ℕ). issued_line x b number) (shown name m ∙ named)) p e
-
-    pub return-made : text_in l ≡ returned_line (take (m - 0) name) number
-        → (n ≡ length (returned_as t number).entry) × (entry' ≡ (returned_as t number).entry ++ drop n entry)
-        → Tells (returned_as t number) r entry entry'
-    return-made a p = made_told _ _ entry entry' l n r (a ∙ ap (λ (x : List ℕ). returned_line x number) (shown name m ∙ named)) p e
-
-  pub out-told : (b : ℕ) → text_in l ≡ out_line (take (m - 0) name) b → r ≡ with_line l 0 → Said (ask_served t [] (accept b)) r
-  out-told b a e =
-      subst (Said (ask_served t [] (accept b))) (sym e)
-      (record { answer = a ∙ ap (λ (x : List ℕ). out_line x b) (shown name m ∙ named); refused = refl; sheet = refl; size = refl })
+    let z : entry_size r.outcome ≡ 0 = x.size ∙ ap length e in
+    record { said = x; bytes = sym (ap (λ (bs : List ℕ). bs ++ drop (entry_size r.outcome) entry) e ∙ ap (λ (k : ℕ). drop k entry) z) }
 
 -- ---- the number that a change took
 
 module _ (x : Answer (List ℕ)) (r : Changed) (e : r ≡ changed_as x) where
-  pub done-is : (number : ℕ) → r ≡ changes.Done number → (after : List ℕ) × (x ≡ accept after) × (number ≡ (contents_of after).last)
+  pub done-is : (number : ℕ) → r ≡ Ok number → (after : List ℕ) × (x ≡ accept after) × (number ≡ (contents_of after).last)
   done-is number k = go x (sym k ∙ e)
     where
-      go : (y : Answer (List ℕ)) → changes.Done number ≡ changed_as y
+      go : (y : Answer (List ℕ)) → Ok number ≡ changed_as y
           → (after : List ℕ) × (y ≡ accept after) × (number ≡ (contents_of after).last)
       go (accept a) q = let n : number ≡ (contents_of a).last = cc in (a, refl, n)
       go (refuse p) q = let z : ◌≡◌ {A = ℕ} 0 1 = cc in absurd (omega arith)
 
-  pub refused-is : (q : Refusal) → r ≡ changes.Refused q → x ≡ refuse q
+  pub refused-is : (q : Refusal) → r ≡ Err q → x ≡ refuse q
   refused-is q k = go x (sym k ∙ e)
     where
-      go : (y : Answer (List ℕ)) → changes.Refused q ≡ changed_as y → y ≡ refuse q
+      go : (y : Answer (List ℕ)) → Err q ≡ changed_as y → y ≡ refuse q
       go (accept a) f = let z : ◌≡◌ {A = ℕ} 0 1 = cc in absurd (omega arith)
       go (refuse p) f = let n : q ≡ p = cc in ap refuse (sym n)
 
@@ -117,7 +85,7 @@ module _ (area : List ℕ) (bytes : Below 256 area) where
       let w = answered (code_bytes t) (λ c. changed_area register (of c) area) e in
       (ap is_accepted w.1, last_some (of w.0) (f w.0 (code_in t w.0 w.1)) after w.2)
 
-  module _ (t : List ℕ) (r : Changed) (number : ℕ) (k : r ≡ changes.Done number) where
+  module _ (t : List ℕ) (r : Changed) (number : ℕ) (k : r ≡ Ok number) where
     pub issue-recordable : (b : ℕ) → b < 4294967296 → r ≡ changed_as (issue_text t b area) → Recordable t number
     unfolding issued
     issue-recordable b h e =
@@ -138,7 +106,7 @@ Serves s r entry entry' area' = Tells s r entry entry' × (area' ≡ s.area)
 
 module _ (t : List ℕ) (area area' entry : List ℕ) (r : Served) (made : Changed) where
   module _ (b : ℕ) (e : made ≡ changed_as (issue_text t b area)) (after : area' ≡ afterwards area (issue_text t b area)) where
-    pub issue-done : (number : ℕ) (entry' : List ℕ) → made ≡ changes.Done number → Tells (issued_as t b number) r entry entry'
+    pub issue-done : (number : ℕ) (entry' : List ℕ) → made ≡ Ok number → Tells (issued_as t b number) r entry entry'
         → Serves (call_served (issue t b) area) r entry entry' area'
     unfolding call_served
     issue-done number entry' k x =
@@ -147,7 +115,7 @@ module _ (t : List ℕ) (area area' entry : List ℕ) (r : Served) (made : Chang
         tells_at d.0 (subst (λ (n : ℕ). Tells (issued_as t b n) r entry entry') d.2 x) in
         rw d.1 (y, after ∙ ap (afterwards area) d.1)
 
-    pub issue-refused : (q : Refusal) → made ≡ changes.Refused q → Said (not_served (refused_line q) []) r
+    pub issue-refused : (q : Refusal) → made ≡ Err q → Said (not_served (refused_line q) []) r
         → Serves (call_served (issue t b) area) r entry entry area'
     unfolding call_served
     issue-refused q k x =
@@ -155,7 +123,7 @@ module _ (t : List ℕ) (area area' entry : List ℕ) (r : Served) (made : Chang
         rw d (none-put entry refl (said_at area x), after ∙ ap (afterwards area) d)
 
   module _ (e : made ≡ changed_as (return_text t area)) (after : area' ≡ afterwards area (return_text t area)) where
-    pub return-done : (number : ℕ) (entry' : List ℕ) → made ≡ changes.Done number → Tells (returned_as t number) r entry entry'
+    pub return-done : (number : ℕ) (entry' : List ℕ) → made ≡ Ok number → Tells (returned_as t number) r entry entry'
         → Serves (call_served (take_back t) area) r entry entry' area'
     unfolding call_served
     return-done number entry' k x =
@@ -164,7 +132,7 @@ module _ (t : List ℕ) (area area' entry : List ℕ) (r : Served) (made : Chang
         tells_at d.0 (subst (λ (n : ℕ). Tells (returned_as t n) r entry entry') d.2 x) in
         rw d.1 (y, after ∙ ap (afterwards area) d.1)
 
-    pub return_refused : (q : Refusal) → made ≡ changes.Refused q → Said (not_served (refused_line q) []) r
+    pub return_refused : (q : Refusal) → made ≡ Err q → Said (not_served (refused_line q) []) r
         → Serves (call_served (take_back t) area) r entry entry area'
     unfolding call_served
     return_refused q k x =
@@ -174,29 +142,29 @@ module _ (t : List ℕ) (area area' entry : List ℕ) (r : Served) (made : Chang
 -- ---- a question, and the sheet
 
 module _ (t area : List ℕ) (r : Served) (h : Holder) (e : h ≡ holder_as (ask_text t area)) where
-  ask-as : (y : Answer ℕ) → ask_text t area ≡ y → Said (ask_served t area y) r → (r.entry ≡ 0)
-      → Said (call_served (ask t) area) r × (r.entry ≡ 0)
+  ask-as : (y : Answer ℕ) → ask_text t area ≡ y → Said (ask_served t area y) r → (entry_size r.outcome ≡ 0)
+      → Said (call_served (ask t) area) r × (entry_size r.outcome ≡ 0)
   unfolding call_served
   ask-as y k x z = (rw k x, z)
 
-  pub ask-found : (b : ℕ) → h ≡ holders.Borrower b → Said (ask_served t [] (accept b)) r → Said (call_served (ask t) area) r × (r.entry ≡ 0)
+  pub ask-found : (b : ℕ) → h ≡ Ok b → Said (ask_served t [] (accept b)) r → Said (call_served (ask t) area) r × (entry_size r.outcome ≡ 0)
   ask-found b k x = ask-as (accept b) (go (ask_text t area) (sym k ∙ e)) (said_at area x) x.size
     where
-      go : (y : Answer ℕ) → holders.Borrower b ≡ holder_as y → y ≡ accept b
+      go : (y : Answer ℕ) → Ok b ≡ holder_as y → y ≡ accept b
       go (accept c) f = let n : b ≡ c = cc in ap accept (sym n)
       go (refuse q) f = let z : ◌≡◌ {A = ℕ} 0 1 = cc in absurd (omega arith)
 
-  pub ask-refused : (q : Refusal) → h ≡ holders.Refused q → Said (not_served (refused_line q) []) r
-      → Said (call_served (ask t) area) r × (r.entry ≡ 0)
+  pub ask-refused : (q : Refusal) → h ≡ Err q → Said (not_served (refused_line q) []) r
+      → Said (call_served (ask t) area) r × (entry_size r.outcome ≡ 0)
   ask-refused q k x = ask-as (refuse q) (go (ask_text t area) (sym k ∙ e)) (said_at area x) x.size
     where
-      go : (y : Answer ℕ) → holders.Refused q ≡ holder_as y → y ≡ refuse q
+      go : (y : Answer ℕ) → Err q ≡ holder_as y → y ≡ refuse q
       go (accept c) f = let z : ◌≡◌ {A = ℕ} 0 1 = cc in absurd (omega arith)
       go (refuse p) f = let n : q ≡ p = cc in ap refuse (sym n)
 
 module _ (area : List ℕ) (is : Bool) (e : is ≡ is_register area) where
-  pub sheet-counted : (l : Line) → is ≡ true → text_in l ≡ get_or (sheet_lines area) 0 []
-      → Said (sheet_served area) (record { line = l; entry = 0; refused = false; sheet = true })
+  pub sheet-counted : (l : List ℕ) → is ≡ true → l ≡ get_or (sheet_lines area) 0 []
+      → Said (sheet_served area) (record { line = l; outcome = outcomes.Sheet })
   unfolding sheet_lines
   sheet-counted l k a =
       let v : is_register area ≡ true = sym e ∙ k in

@@ -1,16 +1,12 @@
 -- The definitions' values in the code.
-use Rattle.std.specs.Prelude.{ℕ, List, take}
+use Rattle.std.specs.Prelude.{take, Ok, Err}
 use Rattle.loans.specs.Promotion as verdicts
-use Rattle.promotion.specs.declared.answer.Promotion.{Promotion}
-use Rattle.promotion.specs.declared.answer.Verdict.{Verdict}
-use Rattle.promotion.specs.declared.answer.Verdict.TheVariants as answers
+use Rattle.promotion.specs.declared.answer.Denial.TheVariants as denials
+use Rattle.promotion.specs.Representation.{Promotion}
 
 -- a verdict, as the code has it
-abbrev pub verdict_with : Verdict → List ℕ → verdicts.Verdict
-verdict_with answers.Granted c = verdicts.granted
-verdict_with (answers.Refused q) c = verdicts.refused q
-verdict_with (answers.RefusedAt q offset) c = verdicts.refused_at q offset
-verdict_with (answers.RefusedFor q) c = verdicts.refused_for q c
-
 abbrev pub verdict_in : Promotion → verdicts.Verdict
-verdict_in p = verdict_with p.verdict (take p.code.length p.code.bytes)
+verdict_in (Ok x) = verdicts.granted
+verdict_in (Err (denials.Refused q)) = verdicts.refused q
+verdict_in (Err (denials.At q offset)) = verdicts.refused_at q offset
+verdict_in (Err (denials.For q code)) = verdicts.refused_for q (take code.length code.bytes)

@@ -1,25 +1,46 @@
 -- What the code tells of a command that was served. The area afterwards is each function's own promise.
-use Rattle.std.specs.Prelude.{ℕ, ◌<◌, ◌≡◌, true, false, List, [], ◌++◌, length, drop}
+use Rattle.std.specs.Prelude.{ℕ, Bool, ◌<◌, ◌≡◌, true, false, List, [], ◌++◌, length, drop}
 use Rattle.iscc.specs.Answer.{is_accepted}
 use Rattle.iscc.specs.Doors.{code_bytes}
 use Rattle.loans.specs.Map.{Change, issue_code, return_code}
 use Rattle.loans.specs.Fields.{field_bytes}
 use Rattle.loans.specs.PendingLog.{record_of}
-use Rattle.answers.specs.Answers.{text_in, issued_line, returned_line}
+use Rattle.answers.specs.Answers.{issued_line, returned_line}
 use Rattle.hall.specs.Serving as serving
 use Rattle.hall.specs.Serving.{text_of_typed, code_of_typed}
+use Rattle.hall.specs.declared.serving.Outcome.{Outcome}
+use Rattle.hall.specs.declared.serving.Outcome.TheVariants as outcomes
 use Rattle.hall.specs.declared.serving.Served.{Served}
 
+-- what an outcome tells: that the command was refused, that the sheet's other lines follow, and how large the record is
+abbrev pub is_refused : Outcome → Bool
+is_refused outcomes.Refused = true
+is_refused outcomes.Answered = false
+is_refused outcomes.Sheet = false
+is_refused (outcomes.Recorded n) = false
+
+abbrev pub is_sheet : Outcome → Bool
+is_sheet outcomes.Refused = false
+is_sheet outcomes.Answered = false
+is_sheet outcomes.Sheet = true
+is_sheet (outcomes.Recorded n) = false
+
+abbrev pub entry_size : Outcome → ℕ
+entry_size outcomes.Refused = 0
+entry_size outcomes.Answered = 0
+entry_size outcomes.Sheet = 0
+entry_size (outcomes.Recorded n) = n
+
 pub record Said (s : serving.Served) (r : Served) : Type 0 where
-  pub answer : text_in r.line ≡ s.answer
-  pub refused : r.refused ≡ s.refused
-  pub sheet : r.sheet ≡ s.sheet
-  pub size : r.entry ≡ length s.entry
+  pub answer : r.line ≡ s.answer
+  pub refused : is_refused r.outcome ≡ s.refused
+  pub sheet : is_sheet r.outcome ≡ s.sheet
+  pub size : entry_size r.outcome ≡ length s.entry
 
 -- and the record stands in front of the area for it, whose other bytes stay
 pub record Tells (s : serving.Served) (r : Served) (entry entry' : List ℕ) : Type 0 where
   pub said : Said s r
-  pub bytes : entry' ≡ s.entry ++ drop r.entry entry
+  pub bytes : entry' ≡ s.entry ++ drop (entry_size r.outcome) entry
 
 -- ---- a change that was made, under its number
 

@@ -1,4 +1,5 @@
 -- What the standby hall's program answers: to a replay, and to the question whether its replica may be promoted.
+use Rattle.iscc.specs.Refusals.{refusal_number}
 use Rattle.std.specs.Prelude.{ℕ, cond, List, [], ◌++◌, length}
 use Rattle.iscc.specs.Answer.{Answer, accept, refuse}
 use Rattle.iscc.specs.Refusals.{Refusal, not_register}
@@ -13,7 +14,7 @@ use Rattle.hall.specs.Sheet.{text_of_bytes}
 
 -- a number, where it applies, and its sentence
 abbrev pub numbered : Refusal → List ℕ → List ℕ
-numbered q where' = in_decimal q.number ++ (where' ++ (ascii ": " ++ sentence q.number))
+numbered q where' = in_decimal (refusal_number q) ++ (where' ++ (ascii ": " ++ sentence (refusal_number q)))
 
 -- ---- a replay
 

@@ -1,28 +1,32 @@
 // The one text of a code, for a line.
-ghost use Rattle.std.specs.Prelude.{◌≡◌, ◌≤◌, length, take};
+ghost use Rattle.std.specs.Prelude.{◌≡◌, ◌≤◌, length};
 ghost use Rattle.hall.specs.Serving.{text_of_typed};
 ghost use Rattle.hall.specs.Sheet.{text_of_bytes};
 
 use door::intake::intake;
 use door::text::text;
-use iscc::written::Written;
 
-// Writes it to the front of the area, and answers its length: 0 where the bytes are no code.
-pub(crate) fn of_code(code: &[u8], name: &mut [u8; 73]) -> usize
-    ensures { (take result name.new ≡ text_of_bytes code.now) × (result ≤ 73) × (length name.new ≡ 73) }
+// The longest text of a code, in bytes.
+pub(crate) const LONGEST_NAME: usize = 73;
+
+// Written to the front of the area; nothing where the bytes are no code.
+pub(crate) fn of_code<'a>(code: &[u8], name: &'a mut [u8; LONGEST_NAME]) -> &'a [u8]
+    ensures text { result.now ≡ text_of_bytes code.now }
+    ensures bound { length result.now ≤ LONGEST_NAME }
 {
     match text(code, name) {
-        Written::Length(n) => n,
-        Written::Refused(_) => 0,
+        Ok(n) => &name[..n],
+        Err(_) => &[],
     }
 }
 
-// The same of the code that a typed text holds.
-pub(crate) fn of_text(typed: &[u8], name: &mut [u8; 73]) -> usize
-    ensures { (take result name.new ≡ text_of_typed typed.now) × (result ≤ 73) × (length name.new ≡ 73) }
+// The same of the code that a typed text holds. One function for both would take the door's as a closure, for two arms.
+pub(crate) fn of_text<'a>(typed: &[u8], name: &'a mut [u8; LONGEST_NAME]) -> &'a [u8]
+    ensures text { result.now ≡ text_of_typed typed.now }
+    ensures bound { length result.now ≤ LONGEST_NAME }
 {
     match intake(typed, name) {
-        Written::Length(n) => n,
-        Written::Refused(_) => 0,
+        Ok(n) => &name[..n],
+        Err(_) => &[],
     }
 }

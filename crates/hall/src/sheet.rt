@@ -1,81 +1,81 @@
 // The sheet's lines: the counts, then a line for each code out.
-ghost use Rattle.std.specs.Prelude.{◌≡◌, true, [], ◌++◌, ◌<◌, length, get_or, take};
+ghost use Rattle.std.specs.Prelude.{◌≡◌, [], ◌++◌, ◌<◌, length, get_or, take};
 ghost use Rattle.loans.specs.Counts as tallies;
 ghost use Rattle.loans.specs.Halving.{loan_in};
-ghost use Rattle.loans.specs.Contents.{is_register, contents_of};
-ghost use Rattle.answers.specs.Answers.{text_in, in_decimal, out_line, counts_line};
+ghost use Rattle.loans.specs.Contents.{contents_of};
+ghost use Rattle.answers.specs.Answers.{in_decimal, out_line, counts_line};
 ghost use Rattle.hall.specs.Sheet.{text_of_bytes, loan_line, sheet_lines};
 
 use crate::names;
-use answers::line::{Line, empty, put, put_number};
+use crate::names::LONGEST_NAME;
+use answers::line::Line;
 use answers::replies;
-use loans::layout::{COUNTS_LENGTH, LAST_NUMBER_OFFSET};
-use places::place;
-use register::{calls, check, count};
+use register::area::Register;
 
 // A number and its name behind a line.
-fn counted(line: Line, number: u32, name: &[u8]) -> Line
-    ensures { (text_in result ≡ take 200 (text_in line ++ (in_decimal number ++ name.now))) × (number < 4294967296) }
+fn push_count(line: &mut Line, number: u32, name: &[u8])
+    ensures { line.new ≡ take 200 (line.old ++ (in_decimal number ++ name.now)) }
 {
-    put(put_number(line, number as u64), name)
+    line.push_number(u64::from(number));
+    line.push(name);
 }
 
 // The first line: in all and by main type.
-fn counts(area: &[u8]) -> Line
-    requires { is_register area.now ≡ true }
-    ensures { text_in result ≡ counts_line (tallies.counts (contents_of area.now).loans) }
+fn counts(register: Register) -> Line
+    ensures { result ≡ counts_line (tallies.counts (contents_of register.entry.area.now).loans) }
 {
-    let n = calls::counts(area);
-    let out = counted(empty(), n.out, b" out: ");
-    let meta = counted(out, n.meta, b" META, ");
-    let semantic = counted(meta, n.semantic, b" SEMANTIC, ");
-    let content = counted(semantic, n.content, b" CONTENT, ");
-    let data = counted(content, n.data, b" DATA, ");
-    let instance = counted(data, n.instance, b" INSTANCE, ");
-    let iscc = counted(instance, n.iscc, b" ISCC, ");
-    counted(iscc, n.id, b" ID")
+    let n = register.counts();
+    let mut line = Line::new();
+    push_count(&mut line, n.out, b" out: ");
+    push_count(&mut line, n.meta, b" META, ");
+    push_count(&mut line, n.semantic, b" SEMANTIC, ");
+    push_count(&mut line, n.content, b" CONTENT, ");
+    push_count(&mut line, n.data, b" DATA, ");
+    push_count(&mut line, n.instance, b" INSTANCE, ");
+    push_count(&mut line, n.iscc, b" ISCC, ");
+    push_count(&mut line, n.id, b" ID");
+    line
 }
 
 // The line of a code that is out.
 fn out(code: &[u8], borrower: u32) -> Line
-    ensures { text_in result ≡ out_line (text_of_bytes code.now) borrower }
+    ensures { result ≡ out_line (text_of_bytes code.now) borrower }
 {
-    let mut name = [0u8; 73];
-    let length = names::of_code(code, &mut name);
-    replies::out(&name[0..length], borrower)
+    let mut name = [0; LONGEST_NAME];
+    replies::out(names::of_code(code, &mut name), borrower)
 }
 
 // The line of the code in a place.
-fn loan(area: &[u8], i: usize) -> Line
-    requires { (is_register area.now ≡ true) × (i < length (contents_of area.now).loans) × (i < 256) }
-    ensures { text_in result ≡ loan_line (loan_in (contents_of area.now).loans i) }
+fn loan(register: Register, i: usize) -> Line
+    requires { i < length (contents_of register.area.now).loans }
+    ensures { result ≡ loan_line (loan_in (contents_of register.entry.area.now).loans i) }
 {
-    let places = &area[COUNTS_LENGTH..LAST_NUMBER_OFFSET];
-    out(place::code(places, i), place::borrower(places, i))
+    let places = register.places();
+    out(places.code(i), places.borrower(i))
 }
 
 // How many lines there are; none where the area is no register.
 pub fn count(area: &[u8]) -> usize
     ensures { result ≡ length (sheet_lines area.now) }
 {
-    if check::is_register(area) {
-        return 1 + count::codes_out(area);
+    match Register::from_bytes(area) {
+        Some(register) => 1 + register.codes_out(),
+        None => 0,
     }
-    0
 }
 
 // The line that stands i-th, from 0; an empty one behind the last.
 pub fn line(area: &[u8], i: usize) -> Line
-    ensures { text_in result ≡ get_or (sheet_lines area.now) i [] }
+    ensures { result ≡ get_or (sheet_lines area.now) i [] }
 {
-    if check::is_register(area) {
-        if i == 0 {
-            return counts(area);
-        }
-        if i <= count::codes_out(area) {
-            return loan(area, i - 1);
-        }
-        return empty();
+    let Some(register) = Register::from_bytes(area) else {
+        return Line::new();
+    };
+    if i == 0 {
+        return counts(register);
     }
-    empty()
+    if i <= register.codes_out() {
+        return loan(register, i - 1);
+    }
+    Line::new()
 }

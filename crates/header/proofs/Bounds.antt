@@ -1,4 +1,5 @@
 -- What callers of the reader may count on: bounds of a header that was read, and the definitions' value behind the code's.
+use Rattle.std.specs.Prelude.{Ok}
 use Prim.Native.Nat.{ℕ, ◌+◌, ◌-◌, ◌*◌, ◌%◌, ◌^◌, ◌≤◌, ◌<◌}
 use mathlib.Core.Path.{◌≡◌, refl, ap, subst}
 use mathlib.Core.Bool.{Bool, true, false, cond}
@@ -15,7 +16,6 @@ use Rattle.iscc.specs.Header as iscc
 use Rattle.iscc.proofs.Answer.{passed, accept-inj}
 use Rattle.iscc.proofs.Header.{length-nibbles, FourRead, parsed_four, four-read}
 use Rattle.header.specs.declared.reader.RawHeader.{RawHeader}
-use Rattle.header.specs.declared.reader.HeaderRead.TheVariants.{Header}
 use Rattle.header.specs.Representation.{header_from, raw_header_as, header_read_as}
 
 -- a varnibble that was read
@@ -84,9 +84,9 @@ header-bounds bs = four-read bs (HeaderBounds bs) (four-bounds bs)
 abbrev pub parsed_from : RawHeader → Parsed iscc.Header
 parsed_from h = record { result = header_from h.header; used = h.used }
 
-pub read_as : (r : Answer (Parsed iscc.Header)) (h : RawHeader) → header_read_as r ≡ Header h → r ≡ accept (parsed_from h)
+pub read_as : (r : Answer (Parsed iscc.Header)) (h : RawHeader) → header_read_as r ≡ Ok h → r ≡ accept (parsed_from h)
 read_as (accept g) h e = let s : raw_header_as g ≡ h = cc in ap (λ (x : RawHeader). accept (parsed_from x)) s
 read_as (refuse q) h e = let z : ◌≡◌ {A = ℕ} 0 1 = cc in absurd (omega arith)
 
-pub raw-bounds : (bs : List ℕ) (h : RawHeader) → header_read_as (read_header bs) ≡ Header h → HeaderBounds bs (parsed_from h)
+pub raw-bounds : (bs : List ℕ) (h : RawHeader) → header_read_as (read_header bs) ≡ Ok h → HeaderBounds bs (parsed_from h)
 raw-bounds bs h e = header-bounds bs (parsed_from h) (read_as (read_header bs) h e)

@@ -1,4 +1,5 @@
 -- A header of four numbers below 8 is two bytes, a nibble a number.
+use Rattle.std.specs.Prelude.{Ok}
 use Prim.Native.Nat.{ℕ, ◌/◌, ◌%◌, ◌≤◌, ◌<◌}
 use mathlib.Core.Path.{◌≡◌, sym, ◌∙◌, ap}
 use mathlib.Core.Bool.{Bool, true, ◌&&◌}
@@ -13,7 +14,6 @@ use Rattle.iscc.specs.Answer.{accept}
 use Rattle.iscc.specs.Header.{Header, header_with_numbers, header_bytes, read_header}
 use Rattle.iscc.proofs.Booleans.{both_true}
 use Rattle.iscc.proofs.Header.{read-header, short-bytes}
-use Rattle.header.specs.declared.reader.HeaderRead.TheVariants as read
 use Rattle.header.specs.declared.reader.RawHeader.{RawHeader}
 use Rattle.header.specs.Representation.{header_read_as, header_fields, fields_of, short_header}
 use Rattle.header.proofs.Read.{fields_told}
@@ -31,7 +31,7 @@ module _ (a b : ℕ) (rest : List ℕ) (a₁ : a / 16 < 8) (a₂ : a % 16 < 8) (
 module _ (bs : List ℕ) (r : Bool) (h : RawHeader) (l : 2 ≤ length bs)
     (e : r ≡ ltb (get_or bs 0 0) 128 && ltb (get_or bs 0 0 % 16) 8 && ltb (get_or bs 1 0) 128 && ltb (get_or bs 1 0 % 16) 8) (t : r ≡ true)
     (f : h ≡ short_header (get_or bs 0 0) (get_or bs 1 0)) where
-  pub short-there : read.Header h ≡ header_read_as (read_header bs)
+  pub short-there : Ok h ≡ header_read_as (read_header bs)
   short-there =
       let a : ℕ = get_or bs 0 0 in
       let b : ℕ = get_or bs 1 0 in
@@ -46,5 +46,5 @@ module _ (bs : List ℕ) (r : Bool) (h : RawHeader) (l : 2 ≤ length bs)
       let there : read_header bs ≡ accept _ = ap read_header front ∙ there a b (drop 2 bs) (omega arith) a₂ (omega arith) b₂ in
       rw (f, there)
 
-  pub short-fields : header_fields (read.Header h) ≡ fields_of (read_header bs)
-  short-fields = fields_told (read.Header h) (read_header bs) short-there
+  pub short-fields : header_fields (Ok h) ≡ fields_of (read_header bs)
+  short-fields = fields_told (Ok h) (read_header bs) short-there

@@ -1,4 +1,5 @@
 -- What the writer's steps say of `varnibble`, `header_bytes` and `write_header`.
+use Rattle.std.specs.Prelude.{Ok, Err}
 use Prim.Native.Nat.{ℕ, ◌+◌, ◌-◌, ◌*◌, ◌/◌, ◌%◌, ◌^◌, ◌≤◌, ◌<◌}
 use mathlib.Core.Path.{◌≡◌, refl, sym, ◌∙◌, ap}
 use mathlib.Core.Bool.{Bool, true, false, ◌&&◌}
@@ -8,7 +9,8 @@ use native.Mathlib.Nat.{lt_of_lt_of_le, mul-add}
 use lib.Arith.{digits_lt}
 use lib.Pow.{pow_mono, pow-add}
 use lib.Dec.{leb}
-use lib.ListN.{length}
+use borrow.Rule.Slice.PartMut.{post_of}
+use lib.ListN.{length, take, drop}
 use borrow.Author.Tests.{leb-true, le-leb, lt-leb}
 use Rattle.iscc.specs.Answer.{Answer, accept, refuse, ◌>>=◌, ◌>>◌, ◌otherwise◌, area_after}
 use Rattle.iscc.specs.Refusals.{Refusal, number_too_large, area_too_short}
@@ -16,9 +18,8 @@ use Rattle.iscc.specs.Digits.{digits}
 use Rattle.iscc.specs.Varnibble.{row_of, varnibble, write_varnibble}
 use Rattle.iscc.specs.Header.{Writable, packed, header_bytes, raw_header, write_header}
 use Rattle.iscc.specs.Representation.{written_as}
-use Rattle.iscc.specs.declared.written.Written.TheVariants.{Length, Refused}
 use Rattle.iscc.proofs.Booleans.{both_true}
-use Rattle.iscc.proofs.Digits.{length_digits}
+use Rattle.iscc.proofs.Digits.{length_digits, digits_append}
 use Rattle.iscc.proofs.Groups.{digits-join}
 use Rattle.iscc.proofs.Header.{raw-header}
 use Rattle.header.specs.declared.Header.{Header}
@@ -95,15 +96,20 @@ module _ (h : Header) {t : Bool} (et : t ≡ (leb h.main_type 4679 && (leb h.sub
     abbrev answer : Answer (List ℕ)
     answer = write_header (header_from h) (length d)
 
-    pub write-17 : t ≡ false → (Refused number_too_large ≡ written_as answer) × (d ≡ area_after answer d)
+    pub write-17 : t ≡ false → (Err number_too_large ≡ written_as answer) × (d ≡ area_after answer d)
     write-17 e = rw (raw-refused e) (refl, refl)
 
     module _ (ok : t ≡ true) (n x : ℕ) (en : digits 8 n x ≡ header_bytes (header_from h)) where
       raw-is : raw_header (header_from h) ≡ accept (digits 8 n x)
       raw-is = raw-header (header_from h) (all-writable ok) ∙ ap accept (sym en)
 
-      pub write-15 : length d < n → (Refused area_too_short ≡ written_as answer) × (d ≡ area_after answer d)
+      pub write-15 : length d < n → (Err area_too_short ≡ written_as answer) × (d ≡ area_after answer d)
       write-15 l = rw (raw-is, length_digits 8 n x, lt-leb n (length d) l) (refl, refl)
 
-      pub write-ok : {e : List ℕ} → n ≤ length d → e ≡ area_after (accept (digits 8 n x)) d → (Length n ≡ written_as answer) × (e ≡ area_after answer d)
-      write-ok l p = rw (raw-is, length_digits 8 n x, le-leb n (length d) l) (ap Length (sym (length_digits 8 n x)), p)
+      pub write-ok : {e : List ℕ} → n ≤ length d → e ≡ area_after (accept (digits 8 n x)) d → (Ok n ≡ written_as answer) × (e ≡ area_after answer d)
+      write-ok l p = rw (raw-is, length_digits 8 n x, le-leb n (length d) l) (ap Ok (sym (length_digits 8 n x)), p)
+
+-- ---- the bytes at the front of an area
+
+pub front-bytes : (v n : ℕ) (w d : List ℕ) → w ≡ digits 8 n v → w ++ post_of 0 (n - 0) d ≡ area_after (accept (digits 8 n v)) d
+front-bytes v n w d e = let z : n - 0 ≡ n = omega arith in rw (e, z, length_digits 8 n v)

@@ -1,15 +1,19 @@
 -- The code's types (src/) as representations of the definitions' values.
-use Rattle.std.specs.Prelude.{ℕ, ◌+◌, ◌*◌, ◌^◌, ◌≤◌, ◌/◌, ◌%◌, ◌≡◌, List, drop}
+use Rattle.std.specs.Prelude.{Ok, Err}
+use Rattle.iscc.specs.Refusals.{refusal_number}
+use Rattle.std.specs.Prelude.{ℕ, cond, ltb, ◌+◌, ◌*◌, ◌^◌, ◌≤◌, ◌/◌, ◌%◌, Option, None, Some}
 use Rattle.iscc.specs.Answer.{Answer, accept, refuse}
-use Rattle.iscc.specs.Varnibble.{Parsed, first_of, prefix_of, read_varnibble}
+use Rattle.iscc.specs.Varnibble.{Parsed, first_of, prefix_of, row_by}
 use Rattle.iscc.specs.Header as iscc
 use Rattle.header.specs.declared.Header.{Header}
 use Rattle.header.specs.declared.reader.RawHeader.{RawHeader}
-use Rattle.header.specs.declared.reader.HeaderRead.{HeaderRead}
-use Rattle.header.specs.declared.reader.HeaderRead.TheVariants as read
+use Rattle.std.specs.Prelude.{Result}
+use Rattle.iscc.specs.Refusals.{Refusal}
 use Rattle.header.specs.declared.reader.Number.{Number}
 use Rattle.header.specs.declared.rows.Row.{Row}
-use Rattle.header.specs.declared.reader.Numbers.{Numbers}
+
+abbrev pub HeaderRead : Type 0
+HeaderRead = Result RawHeader Refusal
 
 -- a header in the code is the four numbers
 abbrev pub header_as : iscc.Header → Header
@@ -23,8 +27,8 @@ raw_header_as g = record { header = header_as g.result; used = g.used }
 
 -- the answer of the raw header reader
 abbrev pub header_read_as : Answer (Parsed iscc.Header) → HeaderRead
-header_read_as (accept g) = read.Header (raw_header_as g)
-header_read_as (refuse q) = read.Refused q
+header_read_as (accept g) = Ok (raw_header_as g)
+header_read_as (refuse q) = Err q
 
 -- The specification's numbers for each case of a reader's answer: its number, the header's four numbers and the bytes used. A refusal
 -- has its number, and zero for every other.
@@ -45,17 +49,21 @@ fields_with h n =
     record { number = 0; main_type = h.main_type; subtype = h.subtype; version = h.version; length_number = h.length_number; used = n }
 
 abbrev pub header_fields : HeaderRead → Fields
-header_fields (read.Header h) = fields_with (header_from h.header) h.used
-header_fields (read.Refused q) = no_fields q.number
+header_fields (Ok h) = fields_with (header_from h.header) h.used
+header_fields (Err q) = no_fields (refusal_number q)
 
 -- the same of the definition's answer
 unfoldable pub fields_of : Answer (Parsed iscc.Header) → Fields
 fields_of (accept g) = fields_with g.result g.used
-fields_of (refuse q) = no_fields q.number
+fields_of (refuse q) = no_fields (refusal_number q)
 
 -- a row of the varnibble table by its count of nibbles
 abbrev pub row_as : ℕ → Row
 row_as k = record { width = k; first = first_of k; count = 2 ^ (3 * k); prefix = prefix_of k * 2 ^ (3 * k); size = 2 ^ (4 * k) }
+
+-- the row of a first nibble; 1111 has none
+abbrev pub row_for : ℕ → Option Row
+row_for h = cond (ltb h 0b1111) (Some (row_as (row_by h))) None
 
 pub record RowBounds (r : Row) : Type 0 where
   pub some : 1 ≤ r.width
@@ -65,18 +73,10 @@ pub record RowBounds (r : Row) : Type 0 where
   pub room : r.prefix + r.count ≤ r.size
   pub largest : r.size ≤ 65536
 
--- a number that was read; a refusal takes no nibbles
-abbrev pub number_as : Answer (Parsed ℕ) → Number
-number_as (accept g) = record { value = g.result; width = g.used }
-number_as (refuse q) = record { value = 0; width = 0 }
-
--- four numbers, each read behind the one before
-pub record NumbersIn (bs : List ℕ) (n : Numbers) : Type 0 where
-  pub first : n.main_type ≡ number_as (read_varnibble (iscc.nibbles bs))
-  pub second : n.subtype ≡ number_as (read_varnibble (drop n.main_type.width (iscc.nibbles bs)))
-  pub third : n.version ≡ number_as (read_varnibble (drop (n.main_type.width + n.subtype.width) (iscc.nibbles bs)))
-  pub fourth : n.length_number ≡ number_as (read_varnibble (drop (n.main_type.width + n.subtype.width + n.version.width) (iscc.nibbles bs)))
-  pub most : n.main_type.width + n.subtype.width + n.version.width + n.length_number.width ≤ 16
+-- a number that was read, if one was
+abbrev pub number_as : Answer (Parsed ℕ) → Option Number
+number_as (accept g) = Some (record { value = g.result; width = g.used })
+number_as (refuse q) = None
 
 -- a header of two bytes whose four nibbles are its numbers
 abbrev pub short_header : ℕ → ℕ → RawHeader

@@ -1,7 +1,7 @@
 // The rows of the varnibble table.
-ghost use Rattle.std.specs.Prelude.{◌≡◌, ◌+◌, ◌≤◌, ◌<◌, ltb};
-ghost use Rattle.iscc.specs.Varnibble.{row_of, row_by};
-ghost use Rattle.header.specs.Representation.{row_as, RowBounds};
+ghost use Rattle.std.specs.Prelude.{◌≡◌, ◌+◌, ◌≤◌, ◌<◌, IfSome};
+ghost use Rattle.iscc.specs.Varnibble.{row_of};
+ghost use Rattle.header.specs.Representation.{row_as, row_for, RowBounds};
 
 // A row: its nibbles, its first number, how many numbers it has, its prefix in front of zero data bits, and 16 to the power of its nibbles.
 #[derive(Clone, Copy)]
@@ -45,42 +45,32 @@ const FOUR: Row = Row {
     size: 65536,
 };
 
-// Whether a first nibble has a row: 1111 has none.
-pub(crate) fn has_row(first: u32) -> bool
-    ensures { result ≡ ltb first 0b1111 }
+// The row of a first nibble: 1111 has none.
+pub(crate) fn row_by(first: u32) -> Option<Row>
+    ensures row { result ≡ row_for first }
+    ensures bounds { IfSome result RowBounds }
 {
-    first < 0b1111
-}
-
-// The row of a first nibble.
-pub(crate) fn row_by(first: u32) -> Row
-    ensures { (result ≡ row_as (row_by first)) × RowBounds result }
-{
-    if first < 0b1000 {
-        return ONE;
+    match first {
+        0b0000..=0b0111 => Some(ONE),
+        0b1000..=0b1011 => Some(TWO),
+        0b1100..=0b1101 => Some(THREE),
+        0b1110 => Some(FOUR),
+        _ => None,
     }
-    if first < 0b1100 {
-        return TWO;
-    }
-    if first < 0b1110 {
-        return THREE;
-    }
-    FOUR
 }
 
 // The row of a number.
 pub(crate) fn row_of(n: u32) -> Row
     requires { n ≤ 4679 }
-    ensures { (result ≡ row_as (row_of n)) × RowBounds result × (result.first ≤ n) × (n < result.first + result.count) }
+    ensures row { result ≡ row_as (row_of n) }
+    ensures bounds { RowBounds result }
+    ensures begins { result.first ≤ n }
+    ensures ends { n < result.first + result.count }
 {
-    if n < 8 {
-        return ONE;
+    match n {
+        0..=7 => ONE,
+        8..=71 => TWO,
+        72..=583 => THREE,
+        _ => FOUR,
     }
-    if n < 72 {
-        return TWO;
-    }
-    if n < 584 {
-        return THREE;
-    }
-    FOUR
 }

@@ -13,7 +13,8 @@ use Rattle.iscc.specs.Alphabet.{Alphabet, is_digit, digit_in, encode, decode}
 use Rattle.iscc.specs.Base32.{base32, read_base32, write_base32}
 use Rattle.iscc.specs.Varnibble.{varnibble, write_varnibble}
 use Rattle.iscc.specs.Header.{Header, header_bytes, raw_header, write_header}
-use Rattle.iscc.specs.Permitted.{MainType, META, SEMANTIC, CONTENT, DATA, INSTANCE, ISCC, ID, type_of, main_type_of, is_unit, set_of, is_wide, permits, body_bytes}
+use Rattle.iscc.specs.Permitted.{MainType, type_of, main_type_of, is_unit, set_of, is_wide, permits, body_bytes}
+use Rattle.iscc.specs.declared.main_type.MainType.TheVariants.{Meta, Semantic, Content, Data, Instance, Iscc, Id}
 use Rattle.iscc.specs.Item.{item_bytes, item_of, composite_of, wide_of, meaning_as, meaning_of, read_one, unit_bytes, write_unit}
 use Rattle.iscc.specs.Items.{same_type, units_of, items_bytes, read_items, meaning_of_items, joined_meaning, joined_bytes, join, split_bytes, split}
 use Rattle.iscc.specs.Doors.{cleaned, decode_run, payload, items_of_text, meaning_of_text, text_of, code_bytes, read_code, write_text, intake, strict}
@@ -134,19 +135,19 @@ unfolding join_all_stages
 join_by bs area k = into-by (joined_bytes bs) area _ (all-by bs k)
 
 not-composite : (m : MainType) (s v l : ℕ) (body : List ℕ)
-    → By (once not_permitted (same_type m ISCC) ∷ []) (units_of (meaning_as m s v l body) >>= λ is. accept (items_bytes is))
+    → By (once not_permitted (same_type m Iscc) ∷ []) (units_of (meaning_as m s v l body) >>= λ is. accept (items_bytes is))
 unfolding meaning_as units_of composite_of wide_of
-not-composite META s v l body = step-once false not_permitted (accept []) [] (done [])
-not-composite SEMANTIC s v l body = step-once false not_permitted (accept []) [] (done [])
-not-composite CONTENT s v l body = step-once false not_permitted (accept []) [] (done [])
-not-composite DATA s v l body = step-once false not_permitted (accept []) [] (done [])
-not-composite INSTANCE s v l body = step-once false not_permitted (accept []) [] (done [])
-not-composite ISCC s v l body = go (is_wide s l)
+not-composite Meta s v l body = step-once false not_permitted (accept []) [] (done [])
+not-composite Semantic s v l body = step-once false not_permitted (accept []) [] (done [])
+not-composite Content s v l body = step-once false not_permitted (accept []) [] (done [])
+not-composite Data s v l body = step-once false not_permitted (accept []) [] (done [])
+not-composite Instance s v l body = step-once false not_permitted (accept []) [] (done [])
+not-composite Iscc s v l body = go (is_wide s l)
   where
     go : (b : Bool) → By (once not_permitted true ∷ []) (units_of (cond b (wide_of s v body) (composite_of s v (set_of l) body)) >>= λ is. accept (items_bytes is))
     go true = step-once true not_permitted _ [] (done _)
     go false = step-once true not_permitted _ [] (done _)
-not-composite ID s v l body = step-once false not_permitted (accept []) [] (done [])
+not-composite Id s v l body = step-once false not_permitted (accept []) [] (done [])
 
 pub split_by : (bs : List ℕ) (area : ℕ) → By (split_stages bs area) (split bs area)
 unfolding split_stages split_bytes

@@ -9,10 +9,8 @@ use borrow.Author.Tests.{eq-eqb, ne_eqb}
 use Rattle.iscc.specs.Refusals.{bad_character, bad_count, spare_bits}
 use Rattle.iscc.specs.Answer.{accept, refuse, ◌>>◌, ◌otherwise◌}
 use Rattle.iscc.specs.Digits.{digits, value, all_below, byte_count, spare_count, from_digits}
-use Rattle.iscc.specs.Alphabet.{Alphabet, digit_in, is_digit, decode}
-use Rattle.iscc.specs.Lists.{first_not}
-use Rattle.iscc.proofs.Digits.{all_below-true, length_digits}
-use Rattle.iscc.proofs.FirstNot.{all_digits, some-bad}
+use Rattle.iscc.specs.Alphabet.{Alphabet, digit_in, decode}
+use Rattle.iscc.proofs.Digits.{length_digits}
 
 module _ (a : Alphabet) (t : List ℕ) where
   abbrev ds : List ℕ
@@ -33,13 +31,10 @@ module _ (a : Alphabet) (t : List ℕ) where
   unfolding decode from_digits
   decode-by e f g = rw (length-map t (digit_in a), e, f, g)
 
-  pub refused-4 : first_not (is_digit a) t < length t → decode a t ≡ refuse bad_character
-  refused-4 h = decode-by (some-bad a t h) refl refl
+  pub refused-4 : all_below (2 ^ a.bits) ds ≡ false → decode a t ≡ refuse bad_character
+  refused-4 h = decode-by h refl refl
 
-  module _ (h : length t ≤ first_not (is_digit a) t) where
-    in-alphabet : all_below (2 ^ a.bits) ds ≡ true
-    in-alphabet = all_below-true (2 ^ a.bits) ds (all_digits a t h)
-
+  module _ (in-alphabet : all_below (2 ^ a.bits) ds ≡ true) where
     pub refused-5 : ltb (spare_count a.bits (length t)) a.bits ≡ false → decode a t ≡ refuse bad_count
     refused-5 e = decode-by in-alphabet e refl
 

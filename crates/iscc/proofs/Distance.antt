@@ -13,7 +13,8 @@ use lib.Ieee.{binary32, of_int, div, mul, eq}
 use borrow.Author.Tests.{eqb-true, eq-eqb}
 use Rattle.iscc.specs.Answer.{accept}
 use Rattle.iscc.specs.Digits.{digits}
-use Rattle.iscc.specs.Permitted.{MainType, META, SEMANTIC, CONTENT, DATA, INSTANCE, ISCC, ID, number, permits, body_bytes}
+use Rattle.iscc.specs.Permitted.{MainType, number, permits, body_bytes}
+use Rattle.iscc.specs.declared.main_type.MainType.TheVariants.{Meta, Semantic, Content, Data, Instance, Iscc, Id}
 use Rattle.iscc.specs.Item.{Item, read_item, read_one}
 use Rattle.iscc.specs.Items.{same_type}
 use Rattle.iscc.specs.Distance.{Distance, bits_of, differing_positions, differing_bits, compared_bits, ratio_of, has_distance, comparable, distance}
@@ -76,16 +77,16 @@ exact-power k d l h = at (suc (2 ^ k)) (exact_at (2 ^ k)) (at 9 (λ j. up_to (su
 
 -- one of the main types that have a distance
 abbrev pub Compared : MainType → Type 0
-Compared m = (m ≡ META) ⊎ (m ≡ SEMANTIC) ⊎ (m ≡ CONTENT) ⊎ (m ≡ DATA)
+Compared m = (m ≡ Meta) ⊎ (m ≡ Semantic) ⊎ (m ≡ Content) ⊎ (m ≡ Data)
 
 compared-of : (m : MainType) → has_distance m ≡ true → Compared m
-compared-of META e = inl refl
-compared-of SEMANTIC e = inr (inl refl)
-compared-of CONTENT e = inr (inr (inl refl))
-compared-of DATA e = inr (inr (inr refl))
-compared-of INSTANCE e = absurd (false≢true e)
-compared-of ISCC e = absurd (false≢true e)
-compared-of ID e = absurd (false≢true e)
+compared-of Meta e = inl refl
+compared-of Semantic e = inr (inl refl)
+compared-of Content e = inr (inr (inl refl))
+compared-of Data e = inr (inr (inr refl))
+compared-of Instance e = absurd (false≢true e)
+compared-of Iscc e = absurd (false≢true e)
+compared-of Id e = absurd (false≢true e)
 
 has-distance : (m : MainType) → Compared m → has_distance m ≡ true
 has-distance m (inl e) = ap has_distance e

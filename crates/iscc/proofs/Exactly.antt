@@ -1,4 +1,5 @@
 -- The first broken rule is one rule: so an answer that is as its tests say is so exactly.
+use Rattle.iscc.specs.Refusals.{refusal_number}
 use Prim.Native.Nat.{ℕ, ◌<◌}
 use mathlib.Core.Path.{◌≡◌, refl, sym, ◌∙◌, subst}
 use mathlib.Core.Logic.{inl, inr}
@@ -56,10 +57,10 @@ exactly ss (accept a) y =
 exactly ss (refuse q) y =
     let f = y.refused q refl in
     record {
-      accepted = ((λ p. absurd (never p.1)), λ h. absurd (all_first ss q.number f.0 h f.1));
+      accepted = ((λ p. absurd (never p.1)), λ h. absurd (all_first ss (refusal_number q) f.0 h f.1));
       refused =
           λ n. (
             (λ p. let g = y.refused p.0 p.1 in (g.0, subst (λ (k : ℕ). First ss k g.0) p.2 g.1)),
-            λ g. (q, refl, first_one ss q.number f.0 n g.0 f.1 g.1),
+            λ g. (q, refl, first_one ss (refusal_number q) f.0 n g.0 f.1 g.1),
           );
     }

@@ -1,4 +1,5 @@
 -- A lent area in which a list is overwritten, and how a call that fills it ends.
+use Rattle.std.specs.Prelude.{Ok, Err}
 use Prim.Native.Nat.{ℕ, ◌+◌, ◌≤◌, ◌<◌}
 use mathlib.Core.Path.{◌≡◌, refl, sym, ◌∙◌, ap}
 use mathlib.Core.List.{List, [], ◌++◌, append_assoc, append-nil}
@@ -9,8 +10,7 @@ use borrow.Author.Tests.{le-leb, lt-leb}
 use Rattle.iscc.specs.Refusals.{Refusal, area_too_short}
 use Rattle.iscc.specs.Answer.{Answer, accept, refuse, into, area_after}
 use Rattle.iscc.specs.Representation.{written_as}
-use Rattle.iscc.specs.declared.written.Written as code
-use Rattle.iscc.specs.declared.written.Written.TheVariants.{Length, Refused}
+use Rattle.iscc.specs.Representation as code
 use Rattle.iscc.proofs.Area.{WrittenFront, all-written}
 
 -- the area with q in place of what stood from j on
@@ -43,18 +43,18 @@ pub overwritten-all : {d area : List ℕ} {k : ℕ} (j n : ℕ) (q : List ℕ) �
 overwritten-all {d} j n q w e = w.is ∙ rw e (append_assoc (take j d) q (drop (j + n) d))
 
 -- the two ways in which a call that fills an area ends
-pub too_short : (xs d : List ℕ) {r : code.Written} → length d < length xs → r ≡ Refused area_too_short →
+pub too_short : (xs d : List ℕ) {r : code.Written} → length d < length xs → r ≡ Err area_too_short →
     (r ≡ written_as (into (length d) (accept xs))) × (d ≡ area_after (into (length d) (accept xs)) d)
 too_short xs d h e = rw (lt-leb (length xs) (length d) h) (e, refl)
 
-pub filled : {xs d area : List ℕ} {j : ℕ} {r : code.Written} → WrittenFront xs d area j → r ≡ Length j →
+pub filled : {xs d area : List ℕ} {j : ℕ} {r : code.Written} → WrittenFront xs d area j → r ≡ Ok j →
     (r ≡ written_as (into (length d) (accept xs))) × (area ≡ area_after (into (length d) (accept xs)) d)
 filled {xs} {d} {area} {j} w e =
     let h : length xs ≤ length d = omega (arith, w.count, w.room) in
     let a = all-written w in
-    rw (le-leb (length xs) (length d) h) (e ∙ ap Length a.0, a.1)
+    rw (le-leb (length xs) (length d) h) (e ∙ ap Ok a.0, a.1)
 
-pub refused : (d : List ℕ) {x : Answer (List ℕ)} {q : Refusal} {r : code.Written} → x ≡ refuse q → r ≡ Refused q →
+pub refused : (d : List ℕ) {x : Answer (List ℕ)} {q : Refusal} {r : code.Written} → x ≡ refuse q → r ≡ Err q →
     (r ≡ written_as (into (length d) x)) × (d ≡ area_after (into (length d) x) d)
 refused d e p = rw e (p, refl)
 

@@ -5,7 +5,7 @@ use mathlib.Core.List.{List, [], ◌∷◌, ◌++◌, map, map-append, append-ni
 use native.Mathlib.Nat.{mod-eq_of_lt, mul_assoc, add-mul, mul-add, mul_comm, mul-add-div_right, mul-add-mod_self_right, mul-suc, mul-one, mul-zero, div-one, lt_of_lt_of_le, add-zero, zero-add, add_assoc}
 use native.Mathlib.Numerals.{add-one}
 use native.Mathlib.Omega.{arith}
-use lib.ListN.{length, take, drop, get_or, set, length-append, length-map, length-drop}
+use lib.ListN.{length, take, drop, get_or, set, length-append, length-map, length-drop, drop_of_length-le}
 use lib.Seq.{take-suc, take-add, take_all, length-take-le}
 use lib.Arith.{digits_div, digits_lt}
 use lib.Pow.{pow_pos, pow_mono, pow-add, high, low, shl_lt, shr_lt, shr-shr}
@@ -126,6 +126,15 @@ module _ (f : ℕ → ℕ) (v n x : ℕ) where
       let e : i ≡ n = omega (arith, s.within) in
       let z : n - n ≡ 0 = omega arith in
       overwritten-all j n (map f (digits v n x)) (rw (e, z, mul-zero, div-one) at s.is) refl
+
+  -- the same where the area is the part alone
+  pub put_next : {d area : List ℕ} {i : ℕ} (c : ℕ) → Put d area 0 i → i < n → i < length d → c ≡ f (x / 2 ^ (v * (n - 1 - i)) % 2 ^ v) → Put d (set area i c) 0 (i + 1)
+  put_next {d} {area} {i} c s l room e = let z : 0 + i ≡ i = omega arith in rw z at (put_one c s l (omega arith) e)
+
+  pub put_whole : {d area : List ℕ} {i : ℕ} → Put d area 0 i → n ≤ i → n ≡ length d → area ≡ map f (digits v n x)
+  put_whole {d} s h e =
+      let none : drop (0 + n) d ≡ [] = drop_of_length-le d (omega arith) in
+      put_all s h ∙ ap (λ (l : List ℕ). map f (digits v n x) ++ l) none ∙ append-nil (map f (digits v n x))
 
   -- at the front of the area
   pub put_front : {d area : List ℕ} {i : ℕ} → Put d area 0 i → n ≤ i → area ≡ area_after (accept (map f (digits v n x))) d

@@ -1,4 +1,5 @@
 -- One item answers as its tests 7, 8, 9 say, and items from the left as the same tests at each.
+use Rattle.iscc.specs.Refusals.{refusal_number}
 use Prim.Native.Nat.{ℕ, zero, suc, ◌≤◌, ◌<◌, min}
 use mathlib.Core.Path.{◌≡◌, refl, sym, ◌∙◌, ap, subst}
 use mathlib.Core.Logic.{inl, inr}
@@ -54,9 +55,9 @@ one-by bs =
 abbrev at : List ℕ → (List ℕ → Bool) → ℕ → Bool
 at bs p j = item_test p bs j
 
-item-broken : (bs : List ℕ) (q : Refusal) → read_item bs ≡ refuse q → BrokenAt (item_stage bs) q.number 0
+item-broken : (bs : List ℕ) (q : Refusal) → read_item bs ≡ refuse q → BrokenAt (item_stage bs) (refusal_number q) 0
 unfolding unit_stages item_test
-item-broken bs q e = let f = (unit-by bs).refused q e in broken-turn (at bs) 0 bs (λ p. refl) item_rules q.number f.0 f.1
+item-broken bs q e = let f = (unit-by bs).refused q e in broken-turn (at bs) 0 bs (λ p. refl) item_rules (refusal_number q) f.0 f.1
 
 module _ (bs : List ℕ) (g : Parsed Item) (e : read_item bs ≡ accept g) where
   item-holds : HoldAt (item_stage bs) 0
@@ -90,7 +91,7 @@ module _ (bs : List ℕ) (g : Parsed Item) (e : read_item bs ≡ accept g) where
     next-by y i =
         record {
           accepted = λ a z. ((λ j. next-hold (λ _. Unit {0}) (λ k _. (i.accepted a z).0 k) j tt), tt);
-          refused = λ q z. from q.number (i.refused q z);
+          refused = λ q z. from (refusal_number q) (i.refused q z);
         }
       where
         from : (n : ℕ) → ((k : ℕ) × First (item_stage rest ∷ []) n k) → (k : ℕ) × First (item_stage bs ∷ []) n k

@@ -13,7 +13,8 @@ use borrow.Author.Tests.{le-leb, lt-leb, leb-true, eqb-true, eq-eqb}
 use Rattle.iscc.specs.Answer.{Answer, accept, ◌>>=◌}
 use Rattle.iscc.specs.Digits.{Below}
 use Rattle.iscc.specs.Varnibble.{Parsed}
-use Rattle.iscc.specs.Permitted.{MainType, META, SEMANTIC, CONTENT, DATA, INSTANCE, number, main_type_of, Set, set_length_number, unit_types, composite_subtype, row}
+use Rattle.iscc.specs.Permitted.{MainType, number, main_type_of, Set, set_length_number, unit_types, composite_subtype, row}
+use Rattle.iscc.specs.declared.main_type.MainType.TheVariants.{Meta, Semantic, Content, Data, Instance}
 use Rattle.iscc.specs.Meaning.{Meaning, composite, Sized, Permitted}
 use Rattle.iscc.specs.Item.{Item, item_bytes, read_item, meaning_of}
 use Rattle.iscc.specs.Lists.{All, every, pairwise}
@@ -115,8 +116,8 @@ subtype-in m f is p h =
 
 -- a list that makes a composite: its tests
 pub record CompositeParts (is : List Item) (m : Meaning) : Type 0 where
-  pub data_in : has DATA is ≡ true
-  pub instance_in : has INSTANCE is ≡ true
+  pub data_in : has Data is ≡ true
+  pub instance_in : has Instance is ≡ true
   pub all_64_bits : every is_64_bits is ≡ true
   pub shared : pairwise shared_subtype is ≡ true
   pub meaning : composite (subtype_of is) 0 (set_in is) (bodies_in (unit_types (set_in is)) is) ≡ m
@@ -127,9 +128,9 @@ composite_from-parts is m e =
     let e₁ = passed (every joinable is) _ _ e in
     let e₂ = passed (every is_64_bits is) _ _ e₁.1 in
     let e₃ = passed (pairwise other_type is) _ _ e₂.1 in
-    let e₄ = passed (has DATA is && has INSTANCE is) _ _ e₃.1 in
+    let e₄ = passed (has Data is && has Instance is) _ _ e₃.1 in
     let e₅ = passed (pairwise shared_subtype is) _ _ e₄.1 in
-    let d = both_true (has DATA is) (has INSTANCE is) e₄.0 in
+    let d = both_true (has Data is) (has Instance is) e₄.0 in
     record { data_in = d.0; instance_in = d.1; all_64_bits = e₂.0; shared = e₅.0; meaning = accept-inj e₅.1 }
 
 -- the subtype of a list is one that the rules allow for its set
@@ -150,12 +151,12 @@ composite_from-permitted is m p e =
     let body : (t : MainType) → has t is ≡ true → Sized 8 (bytes_in (body_in t is)) = λ t. sized-in t is p k.all_64_bits in
     subst Permitted k.meaning
     (record {
-      subtype = subtype-allowed (set_in is) (subtype_in SEMANTIC is) (subtype_in CONTENT is) (subtype-in SEMANTIC (λ s l. refl) is p) (subtype-in CONTENT (λ s l. refl) is p);
+      subtype = subtype-allowed (set_in is) (subtype_in Semantic is) (subtype_in Content is) (subtype-in Semantic (λ s l. refl) is p) (subtype-in Content (λ s l. refl) is p);
       version = refl;
       count = length-map (unit_types (set_in is)) (λ t. bytes_in (body_in t is)) ∙ types-count (set_in is);
       sized =
           all_map (Sized 8) (λ t. bytes_in (body_in t is)) (unit_types (set_in is))
-          (types-all (λ t. Sized 8 (bytes_in (body_in t is))) (set_in is) (body META) (body SEMANTIC) (body CONTENT) (body DATA k.data_in) (body INSTANCE k.instance_in));
+          (types-all (λ t. Sized 8 (bytes_in (body_in t is))) (set_in is) (body Meta) (body Semantic) (body Content) (body Data k.data_in) (body Instance k.instance_in));
     })
 
 pub means-permitted : (is : List Item) (m : Meaning) → AllPermitted is → meaning_of_items is ≡ accept m → Permitted m

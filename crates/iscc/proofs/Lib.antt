@@ -41,5 +41,6 @@ pub mod FirstNot
 pub mod Filling
 pub mod Codes
 pub mod Numbers
+pub mod Words
 pub mod Groups
 pub mod Decoding

@@ -14,7 +14,8 @@ use borrow.Author.Tests.{eq-eqb, ne_eqb}
 use Rattle.iscc.specs.Refusals.{not_joinable, not_64_bits, main_type_twice, lacks_data_or_instance, subtypes_differ}
 use Rattle.iscc.specs.Answer.{Answer, refuse, ◌>>◌, ◌otherwise◌}
 use Rattle.iscc.specs.Lists.{every}
-use Rattle.iscc.specs.Permitted.{MainType, META, SEMANTIC, CONTENT, DATA, INSTANCE, ISCC, ID, number}
+use Rattle.iscc.specs.Permitted.{MainType, number}
+use Rattle.iscc.specs.declared.main_type.MainType.TheVariants.{Meta, Semantic, Content, Data, Instance, Iscc, Id}
 use Rattle.iscc.specs.Item.{Item, meaning_of}
 use Rattle.iscc.specs.Items.{same_type, joinable, is_64_bits, other_type, shared_subtype, body_in, is_in, has, composite_from, meaning_of_items, joined_meaning}
 use Rattle.iscc.specs.Exactly.{Rule, rule}
@@ -25,18 +26,18 @@ use Rattle.iscc.proofs.FirstBroken.{every_holds, step-at, step-every, step-pairs
 
 -- ---- 13: DATA, and then INSTANCE
 
-present-before : (a b : Bool) (j : ℕ) → j < number DATA → present a b j ≡ true
-present-before a b j l = rw (ne_eqb j (number DATA) (λ e. omega arith), ne_eqb j (number INSTANCE) (λ e. omega arith))
+present-before : (a b : Bool) (j : ℕ) → j < number Data → present a b j ≡ true
+present-before a b j l = rw (ne_eqb j (number Data) (λ e. omega arith), ne_eqb j (number Instance) (λ e. omega arith))
 
-present-data : (b : Bool) (j : ℕ) → j < number INSTANCE → present true b j ≡ true
+present-data : (b : Bool) (j : ℕ) → j < number Instance → present true b j ≡ true
 present-data b j l =
-    elim (ℕ_discrete j (number DATA)) [
-      | yes e ↦ rw (eq-eqb j (number DATA) e)
-      | no e ↦ rw (ne_eqb j (number DATA) e, ne_eqb j (number INSTANCE) (λ z. omega arith))
+    elim (ℕ_discrete j (number Data)) [
+      | yes e ↦ rw (eq-eqb j (number Data) e)
+      | no e ↦ rw (ne_eqb j (number Data) e, ne_eqb j (number Instance) (λ z. omega arith))
     ]
 
 present-both : (j : ℕ) → present true true j ≡ true
-present-both j = go (eqb j (number DATA)) (eqb j (number INSTANCE))
+present-both j = go (eqb j (number Data)) (eqb j (number Instance))
   where
     go : (a b : Bool) → cond a true (cond b true true) ≡ true
     go true b = refl
@@ -45,11 +46,11 @@ present-both j = go (eqb j (number DATA)) (eqb j (number INSTANCE))
 
 lacks-data : {A : Type 0} (b : Bool) (ss : List (List Rule))
     → By {A = A} (rule lacks_data_or_instance (present false b) ∷ ss) (refuse lacks_data_or_instance)
-lacks-data b ss = refusing lacks_data_or_instance (number DATA) _ ss ((λ j l. (present-before false b j l, tt)), inl (refl, refl))
+lacks-data b ss = refusing lacks_data_or_instance (number Data) _ ss ((λ j l. (present-before false b j l, tt)), inl (refl, refl))
 
 lacks-instance : {A : Type 0} (ss : List (List Rule))
     → By {A = A} (rule lacks_data_or_instance (present true false) ∷ ss) (refuse lacks_data_or_instance)
-lacks-instance ss = refusing lacks_data_or_instance (number INSTANCE) _ ss ((λ j l. (present-data false j l, tt)), inl (refl, refl))
+lacks-instance ss = refusing lacks_data_or_instance (number Instance) _ ss ((λ j l. (present-data false j l, tt)), inl (refl, refl))
 
 step-lacks : {B : Type 0} (a b : Bool) (x : Answer B) (ss : List (List Rule)) → By ss x
     → By (rule lacks_data_or_instance (present a b) ∷ ss) ((a && b) otherwise lacks_data_or_instance >> x)
@@ -65,7 +66,7 @@ composite-by is =
     step-every not_joinable _ _
     (step-every not_64_bits _ _
     (step-pairs main_type_twice _ _
-    (step-lacks (has DATA is) (has INSTANCE is) _ _ (step-pairs subtypes_differ _ [] (done _) shared_subtype is))
+    (step-lacks (has Data is) (has Instance is) _ _ (step-pairs subtypes_differ _ [] (done _) shared_subtype is))
     other_type is)
     is_64_bits is)
     joinable is
@@ -78,19 +79,19 @@ meaning-by (i ∷ j ∷ is) h = composite-by (i ∷ j ∷ is)
 
 -- ---- join: of one item 10, or 13 for the main type that is missing
 
-other-missing : (m : MainType) → same_type DATA m ≡ true → same_type INSTANCE m ≡ false
-other-missing META e = refl
-other-missing SEMANTIC e = refl
-other-missing CONTENT e = refl
-other-missing DATA e = refl
-other-missing INSTANCE e = sym e
-other-missing ISCC e = refl
-other-missing ID e = refl
+other-missing : (m : MainType) → same_type Data m ≡ true → same_type Instance m ≡ false
+other-missing Meta e = refl
+other-missing Semantic e = refl
+other-missing Content e = refl
+other-missing Data e = refl
+other-missing Instance e = sym e
+other-missing Iscc e = refl
+other-missing Id e = refl
 
 missing-by : {A : Type 0} (i : Item)
-    → By {A = A} (rule lacks_data_or_instance (present (has DATA (i ∷ [])) (has INSTANCE (i ∷ []))) ∷ []) (refuse lacks_data_or_instance)
+    → By {A = A} (rule lacks_data_or_instance (present (has Data (i ∷ [])) (has Instance (i ∷ []))) ∷ []) (refuse lacks_data_or_instance)
 unfolding body_in
-missing-by i = go (same_type DATA i.main_type) (same_type INSTANCE i.main_type) (other-missing i.main_type)
+missing-by i = go (same_type Data i.main_type) (same_type Instance i.main_type) (other-missing i.main_type)
   where
     go : {A : Type 0} (a b : Bool) → (a ≡ true → b ≡ false)
         → By {A = A} (rule lacks_data_or_instance (present (is_in (cond a (some i.body) none)) (is_in (cond b (some i.body) none))) ∷ [])

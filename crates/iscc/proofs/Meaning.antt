@@ -6,7 +6,8 @@ use mathlib.Core.List.{List, ◌++◌}
 use native.Mathlib.Omega.{arith}
 use lib.ListN.{length, length-append, length-drop, take-append-drop}
 use lib.Seq.{take_at, drop_at, length-take-le}
-use Rattle.iscc.specs.Permitted.{MainType, META, SEMANTIC, CONTENT, DATA, INSTANCE, ISCC, ID, is_unit, set_of, set_length_number, unit_count, is_wide, row, permits, body_bytes}
+use Rattle.iscc.specs.Permitted.{MainType, is_unit, set_of, set_length_number, unit_count, is_wide, row, permits, body_bytes}
+use Rattle.iscc.specs.declared.main_type.MainType.TheVariants.{Meta, Semantic, Content, Data, Instance, Iscc, Id}
 use Rattle.iscc.specs.Meaning.{Meaning, unit, composite, wide, Sized, Permitted}
 use Rattle.iscc.specs.Item.{Item, composite_of, wide_of, meaning_as, meaning_of, unit_length_number, item_of}
 use Rattle.iscc.proofs.Permitted.{Small, small, unit-or-composite, unit_length_number-back, set_back, set_length_number-back, wide-numbers, not_wide, composite-permits, permits-composite}
@@ -18,13 +19,13 @@ use Rattle.iscc.proofs.Item.{PermittedItem}
 
 pub unit-means : (m : MainType) (s v l : ℕ) (body : List ℕ) → is_unit m ≡ true → meaning_as m s v l body ≡ unit m s v body
 unfolding meaning_as
-unit-means META s v l body u = refl
-unit-means SEMANTIC s v l body u = refl
-unit-means CONTENT s v l body u = refl
-unit-means DATA s v l body u = refl
-unit-means INSTANCE s v l body u = refl
-unit-means ISCC s v l body u = cc
-unit-means ID s v l body u = refl
+unit-means Meta s v l body u = refl
+unit-means Semantic s v l body u = refl
+unit-means Content s v l body u = refl
+unit-means Data s v l body u = refl
+unit-means Instance s v l body u = refl
+unit-means Iscc s v l body u = cc
+unit-means Id s v l body u = refl
 
 wide-of : (s v : ℕ) (da ins : List ℕ) → length da ≡ 16 → wide_of s v (da ++ ins) ≡ wide s v da ins
 unfolding wide_of
@@ -51,15 +52,15 @@ item-permitted (wide s v da ins) p =
 
 -- ---- a composite's body and its units' bodies
 
-module _ (s v l : ℕ) (body : List ℕ) (p : permits ISCC s v l ≡ true) where
+module _ (s v l : ℕ) (body : List ℕ) (p : permits Iscc s v l ≡ true) where
   abbrev whole : Item
-  whole = record { main_type = ISCC; subtype = s; version = v; length_number = l; body = body }
+  whole = record { main_type = Iscc; subtype = s; version = v; length_number = l; body = body }
 
   abbrev count : ℕ
   count = unit_count (set_of l)
 
   abbrev numbers : Small s v l
-  numbers = small ISCC s v l p
+  numbers = small Iscc s v l p
 
   composite-permitted : is_wide s l ≡ false → Sized (count * 8) body → Permitted (composite_of s v (set_of l) body)
   unfolding composite_of
@@ -91,7 +92,7 @@ module _ (s v l : ℕ) (body : List ℕ) (p : permits ISCC s v l ≡ true) where
 
   -- what holds of both kinds holds of the meaning
   of-kind : (P : Meaning → Type 0) → (is_wide s l ≡ true → Sized 32 body → P (wide_of s v body)) → (is_wide s l ≡ false → Sized (count * 8) body → P (composite_of s v (set_of l) body))
-      → Sized (body_bytes ISCC s l) body → P (meaning_as ISCC s v l body)
+      → Sized (body_bytes Iscc s l) body → P (meaning_as Iscc s v l body)
   unfolding meaning_as body_bytes
   of-kind P f g z = go (is_wide s l) refl z
     where
@@ -99,10 +100,10 @@ module _ (s v l : ℕ) (body : List ℕ) (p : permits ISCC s v l ≡ true) where
       go true w z = f w z
       go false w z = g w z
 
-  either-permitted : Sized (body_bytes ISCC s l) body → Permitted (meaning_as ISCC s v l body)
+  either-permitted : Sized (body_bytes Iscc s l) body → Permitted (meaning_as Iscc s v l body)
   either-permitted = of-kind Permitted wide-permitted composite-permitted
 
-  either-back : Sized (body_bytes ISCC s l) body → item_of (meaning_as ISCC s v l body) ≡ whole
+  either-back : Sized (body_bytes Iscc s l) body → item_of (meaning_as Iscc s v l body) ≡ whole
   either-back = of-kind (λ m. item_of m ≡ whole) (λ w z. wide_back w) (λ w z. composite-back z)
 
 -- ---- what a permitted item means is permitted, and the item comes back from it

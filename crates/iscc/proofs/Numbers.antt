@@ -1,5 +1,6 @@
 -- Every refusal that a call's definition gives bears a number of the table, 1 to 19, and so never 0: its tests say so, in which
 -- no other number stands. A call that tells 0 has accepted, and the length that it tells is the length written.
+use Rattle.iscc.specs.Refusals.{refusal_number}
 use Prim.Native.Nat.{ℕ, ◌≤◌}
 use mathlib.Core.Path.{◌≡◌, refl, sym, ◌∙◌, ap}
 use mathlib.Core.Logic.{◌↔◌, inl, inr}
@@ -15,7 +16,7 @@ use Rattle.iscc.specs.Digits.{Below}
 use Rattle.iscc.specs.Alphabet.{encode, decode}
 use Rattle.iscc.specs.Base32.{base32, read_base32, write_base32}
 use Rattle.iscc.specs.Header.{Header, raw_header, write_header, read_header}
-use Rattle.iscc.specs.Permitted.{ISCC}
+use Rattle.iscc.specs.declared.main_type.MainType.TheVariants.{Iscc}
 use Rattle.iscc.specs.Item.{Item, read_item, read_one, unit_bytes, write_unit}
 use Rattle.iscc.specs.Items.{same_type, read_items, joined_bytes, split_bytes, join, split}
 use Rattle.iscc.specs.Doors.{payload, meaning_of_text, read_code, write_text, intake, strict}
@@ -34,7 +35,7 @@ in_table n = leb 1 n && leb n 19
 
 -- an answer that refuses with the numbers of the table alone
 pub record Numbered {A : Type 0} (x : Answer A) : Type 0 where
-  pub refused : (q : Refusal) → x ≡ refuse q → in_table q.number ≡ true
+  pub refused : (q : Refusal) → x ≡ refuse q → in_table (refusal_number q) ≡ true
 
 -- ---- by the tests
 
@@ -54,7 +55,7 @@ first-numbered (s ∷ ss) n k t (inl f) = broken-numbered s n k (both_true (ever
 first-numbered (s ∷ ss) n k t (inr f) = first-numbered ss n k (both_true (every (λ (r : Rule). in_table r.number) s) (of_table ss) t).1 f.1
 
 by_tests : {A : Type 0} (ss : List (List Rule)) (x : Answer A) → By ss x → of_table ss ≡ true → Numbered x
-by_tests ss x y t = record { refused = λ q e. let f = y.refused q e in first-numbered ss q.number f.0 t f.1 }
+by_tests ss x y t = record { refused = λ q e. let f = y.refused q e in first-numbered ss (refusal_number q) f.0 t f.1 }
 
 append-table : (ss rs : List (List Rule)) → of_table ss ≡ true → of_table rs ≡ true → of_table (ss ++ rs) ≡ true
 unfolding every
@@ -131,7 +132,7 @@ join-numbered bs area b =
 pub split-numbered : (bs : List ℕ) (area : ℕ) → Numbered (split bs area)
 unfolding every split_stages
 split-numbered bs area =
-    let f : Item → List (List Rule) = λ i. once not_permitted (same_type i.main_type ISCC) ∷ [] in
+    let f : Item → List (List Rule) = λ i. once not_permitted (same_type i.main_type Iscc) ∷ [] in
     by_tests (split_stages bs area) (split bs area) (split_by bs area)
     (append-table (one_stages bs ++ where_accepted (read_one bs) f) (area_stages area (split_bytes bs))
     (append-table (one_stages bs) (where_accepted (read_one bs) f) (one_table bs) (where-table (read_one bs) f (λ i. refl))) (area-table area (split_bytes bs)))
@@ -162,13 +163,13 @@ text-numbered bs area = by_tests (write_text_stages bs area) (write_text bs area
 
 -- ---- what is told
 
-pub number-table : {A : Type 0} (x : Answer A) → Numbered x → (q : Refusal) → x ≡ refuse q → (1 ≤ q.number) × (q.number ≤ 19)
+pub number-table : {A : Type 0} (x : Answer A) → Numbered x → (q : Refusal) → x ≡ refuse q → (1 ≤ (refusal_number q)) × ((refusal_number q) ≤ 19)
 number-table x h q e =
-    let t = both_true (leb 1 q.number) (leb q.number 19) (h.refused q e) in
-    (leb-true 1 q.number t.0, leb-true q.number 19 t.1)
+    let t = both_true (leb 1 (refusal_number q)) (leb (refusal_number q) 19) (h.refused q e) in
+    (leb-true 1 (refusal_number q) t.0, leb-true (refusal_number q) 19 t.1)
 
 -- where no refusal has the number 0, the number is 0 exactly where the definition accepts
-pub number-0 : {A : Type 0} (x : Answer A) → ((q : Refusal) → x ≡ refuse q → 1 ≤ q.number) → (number_of x ≡ 0) ↔ Accepted x
+pub number-0 : {A : Type 0} (x : Answer A) → ((q : Refusal) → x ≡ refuse q → 1 ≤ (refusal_number q)) → (number_of x ≡ 0) ↔ Accepted x
 number-0 (accept a) h = ((λ e. tt), λ t. refl)
 number-0 (refuse q) h = ((λ e. absurd (omega (arith, h q refl, e))), λ t. absurd t)
 

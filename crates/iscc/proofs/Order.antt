@@ -9,7 +9,8 @@ use native.Mathlib.Omega.{arith}
 use lib.ListN.{length}
 use lib.Dec.{eqb}
 use borrow.Author.Tests.{eq-eqb, ne_eqb}
-use Rattle.iscc.specs.Permitted.{MainType, META, SEMANTIC, CONTENT, DATA, INSTANCE, number}
+use Rattle.iscc.specs.Permitted.{MainType, number}
+use Rattle.iscc.specs.declared.main_type.MainType.TheVariants.{Meta, Semantic, Content, Data, Instance}
 use Rattle.iscc.specs.Answer.{Answer}
 use Rattle.iscc.specs.Meaning.{Meaning}
 use Rattle.iscc.specs.Item.{Item}
@@ -103,7 +104,7 @@ composite_from-same {is} {js} r = go (distinct is) refl
         let f : (m : MainType) → body_in m is ≡ body_in m js = λ m. body_in-same m r d in
         let b : ◌≡◌ {A = MainType → List ℕ} (λ m. bytes_in (body_in m is)) (λ m. bytes_in (body_in m js)) = fun_ext (λ m. ap bytes_in (f m)) in
         let g : (m : MainType) → subtype_in m is ≡ subtype_in m js = λ m. subtype_in-same m r d in
-        rw (every-reordered joinable r, every-reordered is_64_bits r, distinct-same r, pairwise-reordered shared_subtype subtype-comm r, b, f META, f SEMANTIC, f CONTENT, f DATA, f INSTANCE, g SEMANTIC, g CONTENT)
+        rw (every-reordered joinable r, every-reordered is_64_bits r, distinct-same r, pairwise-reordered shared_subtype subtype-comm r, b, f Meta, f Semantic, f Content, f Data, f Instance, g Semantic, g Content)
     go false d =
         let d' : distinct js ≡ false = sym (distinct-same r) ∙ d in
         rw (every-reordered joinable r, every-reordered is_64_bits r, d, d')

@@ -1,11 +1,11 @@
 -- Parts of a slice, as callers hand them over: the rest from an offset on, a part of a part, and an area whose front was written and
 -- then what lies behind that.
-use Prim.Native.Nat.{ℕ, zero, suc, ◌-◌}
-use mathlib.Core.Path.{◌≡◌, refl, sym, ◌∙◌}
+use Prim.Native.Nat.{ℕ, zero, suc, ◌+◌, ◌-◌}
+use mathlib.Core.Path.{◌≡◌, refl, sym, ◌∙◌, ap}
 use mathlib.Core.List.{List, [], ◌∷◌, ◌++◌, append_assoc, append-nil}
 use native.Mathlib.Omega.{arith}
 use lib.ListN.{length, take, drop, length-append, length-drop}
-use lib.Seq.{take-append_seam, drop-append_seam, take-length, drop-length, drop-drop, take_all}
+use lib.Seq.{take-append_seam, drop-append_seam, take-length, drop-length, drop-drop, take_all, take_at, drop_at}
 use Rattle.iscc.specs.Answer.{accept, area_after}
 
 -- the part from an offset to the end is what `drop` leaves
@@ -37,3 +37,12 @@ pub over-twice : (xs ys d a e : List ℕ) (k : ℕ) → k ≡ length xs → a �
     → take k a ++ (e ++ drop (length a - k) (drop k a)) ≡ over (xs ++ ys) d
 over-twice xs ys d a e k ek ea =
     rw (ek, ea) λ p. behind xs ys (drop (length xs) d) e p ∙ simp (drop-drop, length-append, append_assoc)
+
+-- first xs was written to d, then ys behind it
+pub put-behind : (xs ys d a e : List ℕ) (n k : ℕ) → length xs ≡ n → length ys ≡ k → a ≡ over xs d → e ≡ ys
+    → take n a ++ (e ++ drop (n + k - n) (drop n a)) ≡ over (xs ++ ys) d
+put-behind xs ys d a e n k en ek ea ee =
+    let b : a ≡ xs ++ drop n d = ea ∙ ap (λ (i : ℕ). xs ++ drop i d) en in
+    let m : n + k - n ≡ k = omega arith in
+    let z : length (xs ++ ys) ≡ n + k = length-append xs ys ∙ omega (arith, en, ek) in
+    rw (b, take_at xs (drop n d) n en, drop_at xs (drop n d) n en, ee, m, drop-drop k n d, z) (sym (append_assoc xs ys (drop (n + k) d)))

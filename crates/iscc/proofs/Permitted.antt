@@ -1,6 +1,9 @@
 -- The laws of permitted headers, and of the eight sets.
+use denote.Enum.Declared.{tag_of}
+use denote.Enum.Bare.{sameb}
+use Rattle.iscc.specs.contracts.main_type.MainType.{the_type}
 use Prim.Native.Nat.{ℕ, ◌+◌, ◌*◌, ◌/◌, ◌%◌, ◌≤◌, ◌<◌}
-use mathlib.Core.Path.{◌≡◌, refl, sym, ◌∙◌, ap}
+use mathlib.Core.Path.{◌≡◌, refl, sym, ◌∙◌, ap, ap₂}
 use mathlib.Core.Bool.{Bool, true, false, cond, not, ◌&&◌, ◌||◌}
 use mathlib.Core.Logic.{◌⊎◌, inl, inr}
 use mathlib.Core.List.{List, ◌++◌}
@@ -10,7 +13,8 @@ use lib.Dec.{eqb, leb, ltb, lit≤}
 use borrow.Author.Tests.{eqb-true, leb-true, ltb-true, lt-ltb, le-leb, eq-eqb, ne_eqb}
 use Rattle.iscc.specs.Answer.{accept}
 use Rattle.iscc.specs.Lists.{All, every, pairwise}
-use Rattle.iscc.specs.Permitted.{MainType, META, SEMANTIC, CONTENT, DATA, INSTANCE, ISCC, ID, number, is_unit, type_of, main_type_of, Set, sets, set_of, set_length_number, weight, unit_count, only, unit_types, composite_subtype, is_wide, row, permits, body_bytes}
+use Rattle.iscc.specs.Permitted.{MainType, number, is_unit, type_of, main_type_of, Set, sets, set_of, set_length_number, weight, unit_count, only, unit_types, composite_subtype, is_wide, row, permits, body_bytes}
+use Rattle.iscc.specs.declared.main_type.MainType.TheVariants.{Meta, Semantic, Content, Data, Instance, Iscc, Id}
 use Rattle.iscc.specs.Item.{unit_length_number}
 use Rattle.iscc.specs.Items.{same_type}
 use Rattle.iscc.proofs.Answer.{accept-inj, passed}
@@ -19,23 +23,23 @@ use Rattle.iscc.proofs.Table.{up_to, at}
 use Rattle.iscc.proofs.Lists.{all_append}
 
 pub number_small : (m : MainType) → number m ≤ 6
-number_small META = lit≤ tt
-number_small SEMANTIC = lit≤ tt
-number_small CONTENT = lit≤ tt
-number_small DATA = lit≤ tt
-number_small INSTANCE = lit≤ tt
-number_small ISCC = lit≤ tt
-number_small ID = lit≤ tt
+number_small Meta = lit≤ tt
+number_small Semantic = lit≤ tt
+number_small Content = lit≤ tt
+number_small Data = lit≤ tt
+number_small Instance = lit≤ tt
+number_small Iscc = lit≤ tt
+number_small Id = lit≤ tt
 
 pub type-number : (m : MainType) → type_of (number m) ≡ m
 unfolding type_of
-type-number META = refl
-type-number SEMANTIC = refl
-type-number CONTENT = refl
-type-number DATA = refl
-type-number INSTANCE = refl
-type-number ISCC = refl
-type-number ID = refl
+type-number Meta = refl
+type-number Semantic = refl
+type-number Content = refl
+type-number Data = refl
+type-number Instance = refl
+type-number Iscc = refl
+type-number Id = refl
 
 pub main_type_of-number : (m : MainType) → main_type_of (number m) ≡ accept m
 unfolding main_type_of
@@ -52,14 +56,14 @@ main_type_of-back n m e =
     ap number (sym (accept-inj p.1)) ∙ number-type n (ltb-true n 7 p.0)
 
 -- a main type is a unit's, or a composite's
-pub unit-or-composite {ℓ} : (P : MainType → Type ℓ) → ((m : MainType) → is_unit m ≡ true → P m) → P ISCC → (m : MainType) → P m
-unit-or-composite P f g META = f META refl
-unit-or-composite P f g SEMANTIC = f SEMANTIC refl
-unit-or-composite P f g CONTENT = f CONTENT refl
-unit-or-composite P f g DATA = f DATA refl
-unit-or-composite P f g INSTANCE = f INSTANCE refl
-unit-or-composite P f g ISCC = g
-unit-or-composite P f g ID = f ID refl
+pub unit-or-composite {ℓ} : (P : MainType → Type ℓ) → ((m : MainType) → is_unit m ≡ true → P m) → P Iscc → (m : MainType) → P m
+unit-or-composite P f g Meta = f Meta refl
+unit-or-composite P f g Semantic = f Semantic refl
+unit-or-composite P f g Content = f Content refl
+unit-or-composite P f g Data = f Data refl
+unit-or-composite P f g Instance = f Instance refl
+unit-or-composite P f g Iscc = g
+unit-or-composite P f g Id = f Id refl
 
 -- a permitted header's numbers
 pub record Small (s v l : ℕ) : Type 0 where
@@ -101,13 +105,13 @@ composite-small s l (inr e) = both_small (λ (a : composite_subtype l s ≡ true
 
 row_small : (m : MainType) (s l : ℕ) → row m s l ≡ true → (s ≤ 7) × (l ≤ 7)
 unfolding row
-row_small META s l = both_small (is-small s 0 (lit≤ tt)) (most-small l 7 (lit≤ tt))
-row_small SEMANTIC s l = both_small (most-small s 4 (lit≤ tt)) (most-small l 7 (lit≤ tt))
-row_small CONTENT s l = both_small (most-small s 4 (lit≤ tt)) (most-small l 7 (lit≤ tt))
-row_small DATA s l = both_small (is-small s 0 (lit≤ tt)) (most-small l 7 (lit≤ tt))
-row_small INSTANCE s l = both_small (is-small s 0 (lit≤ tt)) (most-small l 7 (lit≤ tt))
-row_small ISCC s l = λ e. composite-small s l (or_cases (is_wide s l) (composite_subtype l s && leb l 7) e)
-row_small ID s l = both_small (most-small s 5 (lit≤ tt)) (most-small l 4 (lit≤ tt))
+row_small Meta s l = both_small (is-small s 0 (lit≤ tt)) (most-small l 7 (lit≤ tt))
+row_small Semantic s l = both_small (most-small s 4 (lit≤ tt)) (most-small l 7 (lit≤ tt))
+row_small Content s l = both_small (most-small s 4 (lit≤ tt)) (most-small l 7 (lit≤ tt))
+row_small Data s l = both_small (is-small s 0 (lit≤ tt)) (most-small l 7 (lit≤ tt))
+row_small Instance s l = both_small (is-small s 0 (lit≤ tt)) (most-small l 7 (lit≤ tt))
+row_small Iscc s l = λ e. composite-small s l (or_cases (is_wide s l) (composite_subtype l s && leb l 7) e)
+row_small Id s l = both_small (most-small s 5 (lit≤ tt)) (most-small l 4 (lit≤ tt))
 
 pub small : (m : MainType) (s v l : ℕ) → permits m s v l ≡ true → Small s v l
 small m s v l e =
@@ -118,13 +122,13 @@ small m s v l e =
 -- a unit's length number comes back from its body's length
 pub unit_length_number-back : (m : MainType) (s l : ℕ) → is_unit m ≡ true → unit_length_number m (body_bytes m s l) ≡ l
 unfolding unit_length_number body_bytes
-unit_length_number-back META s l u = omega arith
-unit_length_number-back SEMANTIC s l u = omega arith
-unit_length_number-back CONTENT s l u = omega arith
-unit_length_number-back DATA s l u = omega arith
-unit_length_number-back INSTANCE s l u = omega arith
-unit_length_number-back ISCC s l u = cc
-unit_length_number-back ID s l u = omega arith
+unit_length_number-back Meta s l u = omega arith
+unit_length_number-back Semantic s l u = omega arith
+unit_length_number-back Content s l u = omega arith
+unit_length_number-back Data s l u = omega arith
+unit_length_number-back Instance s l u = omega arith
+unit_length_number-back Iscc s l u = cc
+unit_length_number-back Id s l u = omega arith
 
 -- what holds of each of the eight sets holds of any
 each_set {ℓ} : (P : Set → Type ℓ) → P (set_of 0) → P (set_of 1) → P (set_of 2) → P (set_of 3) → P (set_of 4) → P (set_of 5) → P (set_of 6) → P (set_of 7) → (u : Set) → P u
@@ -169,13 +173,13 @@ cond-most false x y h k = k
 -- a body is of at most 40 bytes
 pub body-most : (m : MainType) (s v l : ℕ) → permits m s v l ≡ true → body_bytes m s l ≤ 40
 unfolding body_bytes
-body-most META s v l p = let h : Small s v l = small META s v l p in omega arith
-body-most SEMANTIC s v l p = let h : Small s v l = small SEMANTIC s v l p in omega arith
-body-most CONTENT s v l p = let h : Small s v l = small CONTENT s v l p in omega arith
-body-most DATA s v l p = let h : Small s v l = small DATA s v l p in omega arith
-body-most INSTANCE s v l p = let h : Small s v l = small INSTANCE s v l p in omega arith
-body-most ISCC s v l p = cond-most (is_wide s l) 32 (unit_count (set_of l) * 8) (lit≤ tt) (omega (arith, count_most (set_of l)))
-body-most ID s v l p = let h : Small s v l = small ID s v l p in omega arith
+body-most Meta s v l p = let h : Small s v l = small Meta s v l p in omega arith
+body-most Semantic s v l p = let h : Small s v l = small Semantic s v l p in omega arith
+body-most Content s v l p = let h : Small s v l = small Content s v l p in omega arith
+body-most Data s v l p = let h : Small s v l = small Data s v l p in omega arith
+body-most Instance s v l p = let h : Small s v l = small Instance s v l p in omega arith
+body-most Iscc s v l p = cond-most (is_wide s l) 32 (unit_count (set_of l) * 8) (lit≤ tt) (omega (arith, count_most (set_of l)))
+body-most Id s v l p = let h : Small s v l = small Id s v l p in omega arith
 
 -- a subtype that the rules allow for a set is not a wide composite's
 pub not_wide : (s l : ℕ) → composite_subtype l s ≡ true → is_wide s l ≡ false
@@ -187,13 +191,13 @@ unfolding set_of sets
 set-small = each_set _ (lit≤ tt) (lit≤ tt) (lit≤ tt) (lit≤ tt) (lit≤ tt) (lit≤ tt) (lit≤ tt) (lit≤ tt)
 
 -- the table's row of a composite, by its set
-pub composite-permits : (s v : ℕ) (u : Set) → v ≡ 0 → composite_subtype (set_length_number u) s ≡ true → permits ISCC s v (set_length_number u) ≡ true
+pub composite-permits : (s v : ℕ) (u : Set) → v ≡ 0 → composite_subtype (set_length_number u) s ≡ true → permits Iscc s v (set_length_number u) ≡ true
 unfolding row
 composite-permits s v u z e = rw (eq-eqb v 0 z, not_wide s (set_length_number u) e, e) (le-leb _ 7 (set-small u))
 
-pub permits-composite : (s v l : ℕ) → permits ISCC s v l ≡ true → is_wide s l ≡ false → composite_subtype l s ≡ true
+pub permits-composite : (s v l : ℕ) → permits Iscc s v l ≡ true → is_wide s l ≡ false → composite_subtype l s ≡ true
 unfolding row
-permits-composite s v l e w = (both_true (composite_subtype l s) (leb l 7) (rw w at (both_true (eqb v 0) (row ISCC s l) e).1)).0
+permits-composite s v l e w = (both_true (composite_subtype l s) (leb l 7) (rw w at (both_true (eqb v 0) (row Iscc s l) e).1)).0
 
 -- the subtype by the set: 5 with neither SEMANTIC nor CONTENT, 6 with META alone, and else 0 to 4
 pub subtype-by-set : (s : ℕ) (u : Set) → composite_subtype (set_length_number u) s ≡ cond (u.semantic || u.content) (leb s 4) (eqb s (cond u.meta 6 5))
@@ -234,23 +238,36 @@ all-only P true m f = (f refl, tt)
 all-only P false m f = tt
 
 -- what holds of those that may be in, where they are, and of DATA and INSTANCE, holds of all that are in
-pub types-all : (P : MainType → Type 0) (u : Set) → (u.meta ≡ true → P META) → (u.semantic ≡ true → P SEMANTIC) → (u.content ≡ true → P CONTENT)
-    → P DATA → P INSTANCE → All P (unit_types u)
+pub types-all : (P : MainType → Type 0) (u : Set) → (u.meta ≡ true → P Meta) → (u.semantic ≡ true → P Semantic) → (u.content ≡ true → P Content)
+    → P Data → P Instance → All P (unit_types u)
 unfolding unit_types
 types-all P u f g h d i =
-    let a : All P (only u.meta META ++ only u.semantic SEMANTIC) = all_append P (only u.meta META) _ (all-only P u.meta META f) (all-only P u.semantic SEMANTIC g) in
-    all_append P (only u.meta META ++ only u.semantic SEMANTIC ++ only u.content CONTENT) _
-    (all_append P (only u.meta META ++ only u.semantic SEMANTIC) _ a (all-only P u.content CONTENT h)) (d, (i, tt))
+    let a : All P (only u.meta Meta ++ only u.semantic Semantic) = all_append P (only u.meta Meta) _ (all-only P u.meta Meta f) (all-only P u.semantic Semantic g) in
+    all_append P (only u.meta Meta ++ only u.semantic Semantic ++ only u.content Content) _
+    (all_append P (only u.meta Meta ++ only u.semantic Semantic) _ a (all-only P u.content Content h)) (d, (i, tt))
 
 -- a main type stands in a list
 abbrev pub among : MainType → List MainType → Bool
 among m ms = not (every (λ k. not (same_type m k)) ms)
 
 -- the set comes back from its units, which have DATA and INSTANCE, and no main type twice
-pub types-set : (u : Set) → record { meta = among META (unit_types u); semantic = among SEMANTIC (unit_types u); content = among CONTENT (unit_types u) } ≡ u
+pub types-set : (u : Set) → record { meta = among Meta (unit_types u); semantic = among Semantic (unit_types u); content = among Content (unit_types u) } ≡ u
 unfolding unit_types set_of sets every
 types-set = each_set _ refl refl refl refl refl refl refl refl
 
-pub types-whole : (u : Set) → (among DATA (unit_types u) && among INSTANCE (unit_types u)) && pairwise (λ m k. not (same_type m k)) (unit_types u) ≡ true
+pub types-whole : (u : Set) → (among Data (unit_types u) && among Instance (unit_types u)) && pairwise (λ m k. not (same_type m k)) (unit_types u) ≡ true
 unfolding unit_types set_of sets every pairwise
 types-whole = each_set _ refl refl refl refl refl refl refl refl
+
+-- equality of two main types in the code
+pub tag-is : (m : MainType) → tag_of the_type m ≡ number m
+tag-is Meta = refl
+tag-is Semantic = refl
+tag-is Content = refl
+tag-is Data = refl
+tag-is Instance = refl
+tag-is Iscc = refl
+tag-is Id = refl
+
+pub same-types : (m k : MainType) → sameb the_type m k ≡ eqb (number m) (number k)
+same-types m k = ap₂ eqb (tag-is m) (tag-is k)

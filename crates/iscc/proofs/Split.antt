@@ -14,7 +14,8 @@ use Rattle.iscc.specs.Answer.{accept, refuse}
 use Rattle.iscc.specs.Refusals.{not_64_bits, lacks_data_or_instance}
 use Rattle.iscc.specs.Digits.{Below}
 use Rattle.iscc.specs.Lists.{All, every, pairwise}
-use Rattle.iscc.specs.Permitted.{MainType, META, SEMANTIC, CONTENT, DATA, INSTANCE, number, Set, unit_types, unit_count, is_wide, row, body_bytes}
+use Rattle.iscc.specs.Permitted.{MainType, number, Set, unit_types, unit_count, is_wide, row, body_bytes}
+use Rattle.iscc.specs.declared.main_type.MainType.TheVariants.{Meta, Semantic, Content, Data, Instance}
 use Rattle.iscc.specs.Meaning.{Meaning, composite, wide, Sized, Permitted}
 use Rattle.iscc.specs.Item.{Item, item_bytes, read_item, read_one, item_of}
 use Rattle.iscc.specs.Items.{read_items, same_type, joinable, is_64_bits, other_type, takes_subtype, has_subtype, shared_subtype, body_in, subtype_in, is_in, has, set_in, bodies_in, subtype_of, composite_from, joined_meaning, joined_bytes, unit128, unit_with, units_of, items_bytes, split_bytes}
@@ -130,8 +131,8 @@ module _ (s v : ℕ) (u : Set) (bodies : List (List ℕ)) (p : Permitted (compos
   unfolding row body_bytes
   units-parts =
       all-zip (unit_with s) IsPart (Sized 8) Part (λ m body f. f body) (unit_types u) bodies
-      (types-all IsPart u (λ h. part META refl refl refl) (λ h. part SEMANTIC refl refl (low (rw h))) (λ h. part CONTENT refl refl (low (rw h (or-true u.semantic))))
-      (part DATA refl refl refl) (part INSTANCE refl refl refl))
+      (types-all IsPart u (λ h. part Meta refl refl refl) (λ h. part Semantic refl refl (low (rw h))) (λ h. part Content refl refl (low (rw h (or-true u.semantic))))
+      (part Data refl refl refl) (part Instance refl refl refl))
       p.sized
 
   pub units-permitted : AllPermitted units
@@ -141,8 +142,8 @@ module _ (s v : ℕ) (u : Set) (bodies : List (List ℕ)) (p : Permitted (compos
   bears : All (Bears s) units
   bears = all-imp Part (λ i k. k.bears) units units-parts
 
-  whole : (among DATA (unit_types u) && among INSTANCE (unit_types u) ≡ true) × (pairwise (λ m k. not (same_type m k)) (unit_types u) ≡ true)
-  whole = both_true (among DATA (unit_types u) && among INSTANCE (unit_types u)) _ (types-whole u)
+  whole : (among Data (unit_types u) && among Instance (unit_types u) ≡ true) × (pairwise (λ m k. not (same_type m k)) (unit_types u) ≡ true)
+  whole = both_true (among Data (unit_types u) && among Instance (unit_types u)) _ (types-whole u)
 
   others : pairwise other_type units ≡ true
   others = sym (pairwise_map (λ i. i.main_type) (λ m k. not (same_type m k)) units) ∙ ap (pairwise (λ m k. not (same_type m k))) units-types ∙ whole.1
@@ -151,15 +152,15 @@ module _ (s v : ℕ) (u : Set) (bodies : List (List ℕ)) (p : Permitted (compos
   in-set m = has-among m units ∙ ap (among m) units-types
 
   set_is : set_in units ≡ u
-  set_is = rw (in-set META, in-set SEMANTIC, in-set CONTENT) (types-set u)
+  set_is = rw (in-set Meta, in-set Semantic, in-set Content) (types-set u)
 
   subtype-is : subtype_of units ≡ s
   unfolding subtype_of
-  subtype-is = go (has SEMANTIC units) (has CONTENT units) (subtype-there s SEMANTIC units refl bears) (subtype-there s CONTENT units refl bears)
+  subtype-is = go (has Semantic units) (has Content units) (subtype-there s Semantic units refl bears) (subtype-there s Content units refl bears)
       (λ h. subtype-fixed s u p.subtype (ap (λ (x : Set). x.semantic || x.content) (sym set_is) ∙ h) ∙ ap (λ (x : Set). cond x.meta 6 5) (sym set_is))
     where
-      go : (b c : Bool) → (b ≡ true → subtype_in SEMANTIC units ≡ s) → (c ≡ true → subtype_in CONTENT units ≡ s) → ((b || c) ≡ false → s ≡ cond (has META units) 6 5)
-          → cond b (subtype_in SEMANTIC units) (cond c (subtype_in CONTENT units) (cond (has META units) 6 5)) ≡ s
+      go : (b c : Bool) → (b ≡ true → subtype_in Semantic units ≡ s) → (c ≡ true → subtype_in Content units ≡ s) → ((b || c) ≡ false → s ≡ cond (has Meta units) 6 5)
+          → cond b (subtype_in Semantic units) (cond c (subtype_in Content units) (cond (has Meta units) 6 5)) ≡ s
       go true c f g h = f refl
       go false true f g h = g refl
       go false false f g h = sym (h refl)
@@ -167,7 +168,7 @@ module _ (s v : ℕ) (u : Set) (bodies : List (List ℕ)) (p : Permitted (compos
   units-make : composite_from units ≡ accept (composite s 0 u bodies)
   unfolding composite_from
   units-make =
-      let d : has DATA units && has INSTANCE units ≡ true = rw (in-set DATA, in-set INSTANCE) whole.0 in
+      let d : has Data units && has Instance units ≡ true = rw (in-set Data, in-set Instance) whole.0 in
       let b : bodies_in (unit_types (set_in units)) units ≡ bodies =
       ap (λ (ms : List MainType). bodies_in ms units) (ap unit_types set_is ∙ sym units-types) ∙ bodies-back units others ∙ units-bodies in
       let j : every joinable units ≡ true = every-all joinable units (all-imp Part (λ i k. k.joins) units units-parts) in
@@ -207,7 +208,7 @@ module _ (s v : ℕ) (u : Set) (bodies : List (List ℕ)) (p : Permitted (compos
 -- for join.
 module _ (s v : ℕ) (da ins : List ℕ) (p : Permitted (wide s v da ins)) where
   abbrev pub two_units : List Item
-  two_units = unit128 DATA da ∷ unit128 INSTANCE ins ∷ []
+  two_units = unit128 Data da ∷ unit128 Instance ins ∷ []
 
   pub wide-item : is_wide s 0 ≡ true
   unfolding is_wide
@@ -222,7 +223,7 @@ module _ (s v : ℕ) (da ins : List ℕ) (p : Permitted (wide s v da ins)) where
   both-permitted = (record { header = refl; body = p.data_sized }, (record { header = refl; body = p.instance_sized }, tt))
 
   pub wide_read : read_items (items_bytes two_units) ≡ accept two_units
-  wide_read = read-items (unit128 DATA da) (unit128 INSTANCE ins ∷ []) both-permitted
+  wide_read = read-items (unit128 Data da) (unit128 Instance ins ∷ []) both-permitted
 
   pub wide-joined : joined_bytes (items_bytes two_units) ≡ refuse not_64_bits
   unfolding joined_bytes joined_meaning composite_from every

@@ -1,4 +1,5 @@
 -- How the answers of a definition's steps make the whole's: a step is a test, or a part whose value the rest takes.
+use Rattle.iscc.specs.Refusals.{refusal_number}
 use Prim.Native.Nat.{ℕ, ◌<◌}
 use mathlib.Core.Path.{◌≡◌, refl, sym, subst}
 use mathlib.Core.Logic.{inl, inr}
@@ -17,7 +18,7 @@ use Rattle.iscc.proofs.Answer.{never, answered, refuse-inj, bind-refused}
 -- that does not, at some position. The other direction follows (Exactly.antt).
 pub record By {A : Type 0} (ss : List (List Rule)) (x : Answer A) : Type 0 where
   pub accepted : (a : A) → x ≡ accept a → AllHold ss
-  pub refused : (q : Refusal) → x ≡ refuse q → (k : ℕ) × First ss q.number k
+  pub refused : (q : Refusal) → x ≡ refuse q → (k : ℕ) × First ss (refusal_number q) k
 
 pub done : {A : Type 0} (a : A) → By [] (accept a)
 done a = record { accepted = λ b e. tt; refused = λ q e. absurd (never (sym e)) }
@@ -25,11 +26,11 @@ done a = record { accepted = λ b e. tt; refused = λ q e. absurd (never (sym e)
 -- ---- a test
 
 pub refusing : {A : Type 0} (n : Refusal) (k : ℕ) (s : List Rule) (ss : List (List Rule))
-    → ((j : ℕ) → j < k → HoldAt s j) × BrokenAt s n.number k → By {A = A} (s ∷ ss) (refuse n)
+    → ((j : ℕ) → j < k → HoldAt s j) × BrokenAt s (refusal_number n) k → By {A = A} (s ∷ ss) (refuse n)
 refusing n k s ss g =
     record {
       accepted = λ a e. absurd (never e);
-      refused = λ q e. (k, inl (subst (λ (r : Refusal). ((j : ℕ) → j < k → HoldAt s j) × BrokenAt s r.number k) (refuse-inj e) g));
+      refused = λ q e. (k, inl (subst (λ (r : Refusal). ((j : ℕ) → j < k → HoldAt s j) × BrokenAt s (refusal_number r) k) (refuse-inj e) g));
     }
 
 pub holding : {A : Type 0} (s : List Rule) (ss : List (List Rule)) (x : Answer A) → ((j : ℕ) → HoldAt s j) → By ss x → By (s ∷ ss) x
@@ -39,7 +40,7 @@ holding s ss x f y =
 -- the stage that it stands for holds where it is true, and is broken at position k where it is false; the rest may lean on it
 pub step : {A : Type 0} (b : Bool) (n : Refusal) (k : ℕ) (x : Answer A) (s : List Rule) (ss : List (List Rule))
     → (b ≡ true → (j : ℕ) → HoldAt s j)
-    → (b ≡ false → ((j : ℕ) → j < k → HoldAt s j) × BrokenAt s n.number k)
+    → (b ≡ false → ((j : ℕ) → j < k → HoldAt s j) × BrokenAt s (refusal_number n) k)
     → (b ≡ true → By ss x) → By (s ∷ ss) (b otherwise n >> x)
 step true n k x s ss f g y = holding s ss x (f refl) (y refl)
 step false n k x s ss f g y = refusing n k s ss (g refl)
@@ -75,10 +76,10 @@ after-part ss rs x f y g =
       accepted = λ b e. let w = answered x f e in all_both ss rs (y.accepted w.0 w.1) ((g w.0 w.1).accepted b w.2);
       refused =
           λ q e. elim (bind-refused x f e) [
-            | inl z ↦ let u = y.refused q z in (u.0, first-left ss rs q.number u.0 u.1)
+            | inl z ↦ let u = y.refused q z in (u.0, first-left ss rs (refusal_number q) u.0 u.1)
             | inr w ↦
                 let u = (g w.0 w.1).refused q w.2 in
-                (u.0, first-right ss rs q.number u.0 (y.accepted w.0 w.1) u.1)
+                (u.0, first-right ss rs (refusal_number q) u.0 (y.accepted w.0 w.1) u.1)
           ];
     }
 

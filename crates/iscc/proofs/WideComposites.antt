@@ -15,7 +15,8 @@ use Rattle.iscc.specs.Alphabet.{encode}
 use Rattle.iscc.specs.Base32.{base32}
 use Rattle.iscc.specs.Varnibble.{parsed}
 use Rattle.iscc.specs.Header.{Header, header_with_numbers, Writable, header_bytes, read_header}
-use Rattle.iscc.specs.Permitted.{MainType, META, SEMANTIC, CONTENT, DATA, INSTANCE, ISCC, ID, number, composite_subtype, is_wide, row, permits, body_bytes}
+use Rattle.iscc.specs.Permitted.{MainType, number, composite_subtype, is_wide, row, permits, body_bytes}
+use Rattle.iscc.specs.declared.main_type.MainType.TheVariants.{Meta, Semantic, Content, Data, Instance, Iscc, Id}
 use Rattle.iscc.specs.Meaning.{Meaning, wide, Sized, Permitted}
 use Rattle.iscc.specs.Item.{Item, item_bytes, item_of, read_item, read_one, unit_bytes, meaning_of}
 use Rattle.iscc.specs.Items.{same_type, joinable, composite_from, meaning_of_items, joined_meaning, joined_bytes, unit128, split_bytes}
@@ -35,28 +36,28 @@ use Rattle.iscc.proofs.Doors.{back, demand3}
 
 -- ---- the header
 
-header_is : header_bytes (header_with_numbers (number ISCC) 7 0 0) ≡ 0x57 ∷ 0x00 ∷ []
+header_is : header_bytes (header_with_numbers (number Iscc) 7 0 0) ≡ 0x57 ∷ 0x00 ∷ []
 header_is = short-bytes 5 7 0 0 (omega arith) (omega arith) (omega arith) (omega arith)
 
 -- what is read behind it, where the table does not permit the numbers, or the body is cut off
-module _ (v l : ℕ) (rest : List ℕ) (w : Writable (header_with_numbers (number ISCC) 7 v l)) where
+module _ (v l : ℕ) (rest : List ℕ) (w : Writable (header_with_numbers (number Iscc) 7 v l)) where
   abbrev h : Header
-  h = header_with_numbers (number ISCC) 7 v l
+  h = header_with_numbers (number Iscc) 7 v l
 
   header_read : read_header (header_bytes h ++ rest) ≡ accept (parsed h (length (header_bytes h)))
   header_read = read-header h rest w
 
-  refused-8 : permits ISCC 7 v l ≡ false → read_item (header_bytes h ++ rest) ≡ refuse not_permitted
+  refused-8 : permits Iscc 7 v l ≡ false → read_item (header_bytes h ++ rest) ≡ refuse not_permitted
   unfolding read_item
-  refused-8 n = rw (header_read, main_type_of-number ISCC, n)
+  refused-8 n = rw (header_read, main_type_of-number Iscc, n)
 
-  refused-9 : permits ISCC 7 v l ≡ true → length rest < body_bytes ISCC 7 l → read_item (header_bytes h ++ rest) ≡ refuse short_body
+  refused-9 : permits Iscc 7 v l ≡ true → length rest < body_bytes Iscc 7 l → read_item (header_bytes h ++ rest) ≡ refuse short_body
   unfolding read_item
   refused-9 p c =
-      let n : length (header_bytes h ++ rest) < length (header_bytes h) + body_bytes ISCC 7 l = omega (arith, length-append (header_bytes h) rest) in
-      rw (header_read, main_type_of-number ISCC, p, lt-leb (length (header_bytes h) + body_bytes ISCC 7 l) (length (header_bytes h ++ rest)) n)
+      let n : length (header_bytes h ++ rest) < length (header_bytes h) + body_bytes Iscc 7 l = omega (arith, length-append (header_bytes h) rest) in
+      rw (header_read, main_type_of-number Iscc, p, lt-leb (length (header_bytes h) + body_bytes Iscc 7 l) (length (header_bytes h ++ rest)) n)
 
-no_row : (l : ℕ) → 0 < l → row ISCC 7 l ≡ false
+no_row : (l : ℕ) → 0 < l → row Iscc 7 l ≡ false
 unfolding row is_wide
 no_row l h = rw (ne_eqb l 0 (λ e. omega (arith, e)), sevens (composite_subtype l 7) refl)
   where
@@ -76,14 +77,14 @@ unfolding composite_from
 not-joinable is e = rw e
 
 -- no main type has a distance to a composite
-type-apart : (m : MainType) → same_type m ISCC && has_distance m ≡ false
-type-apart META = refl
-type-apart SEMANTIC = refl
-type-apart CONTENT = refl
-type-apart DATA = refl
-type-apart INSTANCE = refl
-type-apart ISCC = refl
-type-apart ID = refl
+type-apart : (m : MainType) → same_type m Iscc && has_distance m ≡ false
+type-apart Meta = refl
+type-apart Semantic = refl
+type-apart Content = refl
+type-apart Data = refl
+type-apart Instance = refl
+type-apart Iscc = refl
+type-apart Id = refl
 
 module _ (da ins : List ℕ) (a : Sized 16 da) (b : Sized 16 ins) where
   abbrev m : Meaning
@@ -126,11 +127,11 @@ module _ (da ins : List ℕ) (a : Sized 16 da) (b : Sized 16 ins) where
   unfolding digit_count base32
   characters = length-encode base32 (wide_bytes da ins) ∙ omega (arith, size)
 
-  listed : meaning_of_items (unit128 DATA da ∷ unit128 INSTANCE ins ∷ []) ≡ refuse not_64_bits
+  listed : meaning_of_items (unit128 Data da ∷ unit128 Instance ins ∷ []) ≡ refuse not_64_bits
   unfolding meaning_of_items composite_from every
   listed = rw a.0
 
-  listed-around : meaning_of_items (unit128 INSTANCE ins ∷ unit128 DATA da ∷ []) ≡ refuse not_64_bits
+  listed-around : meaning_of_items (unit128 Instance ins ∷ unit128 Data da ∷ []) ≡ refuse not_64_bits
   unfolding meaning_of_items composite_from every
   listed-around = rw b.0
 
@@ -150,7 +151,7 @@ module _ (da ins : List ℕ) (a : Sized 16 da) (b : Sized 16 ins) where
   apart : (x : List ℕ) (i : Item) → read_one x ≡ accept i → (distance (wide_bytes da ins) x ≡ refuse no_distance) × (distance x (wide_bytes da ins) ≡ refuse no_distance)
   unfolding distance comparable
   apart x i e =
-      let n : same_type ISCC i.main_type && false ≡ false = and-false (same_type ISCC i.main_type) in
+      let n : same_type Iscc i.main_type && false ≡ false = and-false (same_type Iscc i.main_type) in
       (rw (read-alone, e, n), rw (e, read-alone, type-apart i.main_type))
 
   one : WideComposite da ins
@@ -194,9 +195,9 @@ from-join bs out i k e r =
     let s : item_of j.meaning ≡ i = accept-inj (sym j.read ∙ r) in
     ap is_wide_meaning (ap meaning_of (sym s) ∙ meaning-back j.meaning j.permitted) ∙ joined-narrow j.items j.meaning j.joins
 
-from-writer : (h : Header) (body : List ℕ) → h.main_type ≡ number ISCC → unit_bytes h body ≡ refuse not_permitted
+from-writer : (h : Header) (body : List ℕ) → h.main_type ≡ number Iscc → unit_bytes h body ≡ refuse not_permitted
 unfolding unit_bytes
-from-writer h body e = rw (e, main_type_of-number ISCC)
+from-writer h body e = rw (e, main_type_of-number Iscc)
 
 -- ---- the header's bytes without a whole body
 

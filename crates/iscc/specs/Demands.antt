@@ -11,7 +11,8 @@ use Rattle.iscc.specs.Alphabet.{upper, encode, decode}
 use Rattle.iscc.specs.Base32.{base32, read_base32, write_base32}
 use Rattle.iscc.specs.Varnibble.{Parsed, parsed, varnibble, read_varnibble}
 use Rattle.iscc.specs.Header.{Header, Writable, header_bytes, read_header, write_header}
-use Rattle.iscc.specs.Permitted.{DATA, INSTANCE, Set, unit_types, is_wide}
+use Rattle.iscc.specs.Permitted.{Set, unit_types, is_wide}
+use Rattle.iscc.specs.declared.main_type.MainType.TheVariants.{Data, Instance}
 use Rattle.iscc.specs.Meaning.{Meaning, composite, wide, Permitted}
 use Rattle.iscc.specs.Item.{Item, header_of, item_bytes, read_item, read_one, unit_bytes, write_unit, meaning_of, item_of}
 use Rattle.iscc.specs.Items.{read_items, items_bytes, takes_subtype, unit128, joined_meaning, joined_bytes, split_bytes, join, split}
@@ -82,8 +83,8 @@ pub record SplitBack (s v : ℕ) (units : Set) (bodies : List (List ℕ)) : Type
 
 -- A wide composite's: two units of 128 bits, DATA and INSTANCE, that are read one by one.
 pub record WideSplitBack (s v : ℕ) (da ins : List ℕ) : Type 0 where
-  pub bytes : split_bytes (item_bytes (item_of (wide s v da ins))) ≡ accept (items_bytes (unit128 DATA da ∷ unit128 INSTANCE ins ∷ []))
-  pub read : read_items (items_bytes (unit128 DATA da ∷ unit128 INSTANCE ins ∷ [])) ≡ accept (unit128 DATA da ∷ unit128 INSTANCE ins ∷ [])
+  pub bytes : split_bytes (item_bytes (item_of (wide s v da ins))) ≡ accept (items_bytes (unit128 Data da ∷ unit128 Instance ins ∷ []))
+  pub read : read_items (items_bytes (unit128 Data da ∷ unit128 Instance ins ∷ [])) ≡ accept (unit128 Data da ∷ unit128 Instance ins ∷ [])
 
 -- Demand 2. Everything is read and written as ISO 24138 and RFC 4648 define it, within the specification's limits. What is written
 -- reads back; what is read and written again is the same bytes (case of base32 letters apart); units laid end to end are read one

@@ -5,7 +5,8 @@ use Rattle.std.specs.Float.Ieee.{of_int, div}
 use Rattle.iscc.specs.Answer.{Answer, accept, refuse, ◌>>=◌, ◌>>◌, ◌otherwise◌}
 use Rattle.iscc.specs.Refusals.{no_distance}
 use Rattle.iscc.specs.Digits.{digits}
-use Rattle.iscc.specs.Permitted.{MainType, META, SEMANTIC, CONTENT, DATA, INSTANCE, ISCC, ID}
+use Rattle.iscc.specs.Permitted.{MainType}
+use Rattle.iscc.specs.declared.main_type.MainType.TheVariants.{Meta, Semantic, Content, Data, Instance, Iscc, Id}
 use Rattle.iscc.specs.Item.{Item, read_one}
 use Rattle.iscc.specs.Items.{same_type}
 
@@ -37,13 +38,13 @@ compared_bits x y = 8 * min (length x) (length y)
 
 -- the main types whose units have a distance
 abbrev pub has_distance : MainType → Bool
-has_distance META = true
-has_distance SEMANTIC = true
-has_distance CONTENT = true
-has_distance DATA = true
-has_distance INSTANCE = false
-has_distance ISCC = false
-has_distance ID = false
+has_distance Meta = true
+has_distance Semantic = true
+has_distance Content = true
+has_distance Data = true
+has_distance Instance = false
+has_distance Iscc = false
+has_distance Id = false
 
 -- 18 unless main type (META to DATA) and subtype agree
 unfoldable pub comparable : Item → Item → Bool

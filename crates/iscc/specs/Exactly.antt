@@ -1,5 +1,6 @@
 -- The specification, "Numbers of refusal and their order": what "given exactly when" means, over any rules in any order. The rules of
 -- each call, in their order, stand in RefusalOrder.antt.
+use Rattle.iscc.specs.Refusals.{refusal_number}
 use Rattle.std.specs.Prelude.{ℕ, ◌<◌, ◌≡◌, Bool, true, false, List, [], ◌∷◌, ◌⊎◌, ◌↔◌}
 use Rattle.iscc.specs.Refusals.{Refusal}
 use Rattle.iscc.specs.Answer.{Answer, accept, refuse}
@@ -32,13 +33,13 @@ AllHold (s ∷ ss) = ((j : ℕ) → HoldAt s j) × AllHold ss
 -- number's rule is the first that is broken, at some position.
 pub record Exactly {A : Type 0} (ss : List (List Rule)) (x : Answer A) : Type 0 where
   pub accepted : ((a : A) × (x ≡ accept a)) ↔ AllHold ss
-  pub refused : (n : ℕ) → ((q : Refusal) × (x ≡ refuse q) × (q.number ≡ n)) ↔ ((k : ℕ) × First ss n k)
+  pub refused : (n : ℕ) → ((q : Refusal) × (x ≡ refuse q) × (refusal_number q ≡ n)) ↔ ((k : ℕ) × First ss n k)
 
 -- ---- how a call's stages are written
 
 -- a stage of one rule, tested at each position, or without a position
 abbrev pub rule : Refusal → (ℕ → Bool) → List Rule
-rule r p = record { number = r.number; holds = p } ∷ []
+rule r p = record { number = refusal_number r; holds = p } ∷ []
 
 abbrev pub once : Refusal → Bool → List Rule
 once r b = rule r (λ _. b)
@@ -64,7 +65,7 @@ in_turn (r ∷ rs) a = once r.refusal (r.holds a) ∷ in_turn rs a
 -- such rules as one stage: `at p j` is the test p at position j
 abbrev pub together : {A : Type 0} → ((A → Bool) → ℕ → Bool) → List (RuleOn A) → List Rule
 together at [] = []
-together at (r ∷ rs) = record { number = r.refusal.number; holds = at r.holds } ∷ together at rs
+together at (r ∷ rs) = record { number = refusal_number r.refusal; holds = at r.holds } ∷ together at rs
 
 -- stages, and a test, that are reached only where an answer accepts
 abbrev pub where_accepted : {A : Type 0} → Answer A → (A → List (List Rule)) → List (List Rule)

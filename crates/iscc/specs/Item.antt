@@ -5,7 +5,8 @@ use Rattle.iscc.specs.Answer.{Answer, accept, ◌>>=◌, ◌>>◌, ◌otherwise�
 use Rattle.iscc.specs.Refusals.{not_permitted, short_body, bytes_left_over}
 use Rattle.iscc.specs.Varnibble.{Parsed}
 use Rattle.iscc.specs.Header.{Header, header_with_numbers, header_bytes, read_header}
-use Rattle.iscc.specs.Permitted.{MainType, META, SEMANTIC, CONTENT, DATA, INSTANCE, ISCC, ID, number, main_type_of, is_unit, Set, set_of, set_length_number, unit_count, is_wide, permits, body_bytes}
+use Rattle.iscc.specs.Permitted.{MainType, number, main_type_of, is_unit, Set, set_of, set_length_number, unit_count, is_wide, permits, body_bytes}
+use Rattle.iscc.specs.declared.main_type.MainType.TheVariants.{Meta, Semantic, Content, Data, Instance, Iscc, Id}
 use Rattle.iscc.specs.Lists.{cut}
 use Rattle.iscc.specs.Meaning.{Meaning, unit, composite, wide}
 
@@ -68,13 +69,13 @@ unfoldable pub wide_of : ℕ → ℕ → List ℕ → Meaning
 wide_of s v body = wide s v (take 16 body) (drop 16 body)
 
 unfoldable pub meaning_as : MainType → ℕ → ℕ → ℕ → List ℕ → Meaning
-meaning_as META s v l body = unit META s v body
-meaning_as SEMANTIC s v l body = unit SEMANTIC s v body
-meaning_as CONTENT s v l body = unit CONTENT s v body
-meaning_as DATA s v l body = unit DATA s v body
-meaning_as INSTANCE s v l body = unit INSTANCE s v body
-meaning_as ISCC s v l body = cond (is_wide s l) (wide_of s v body) (composite_of s v (set_of l) body)
-meaning_as ID s v l body = unit ID s v body
+meaning_as Meta s v l body = unit Meta s v body
+meaning_as Semantic s v l body = unit Semantic s v body
+meaning_as Content s v l body = unit Content s v body
+meaning_as Data s v l body = unit Data s v body
+meaning_as Instance s v l body = unit Instance s v body
+meaning_as Iscc s v l body = cond (is_wide s l) (wide_of s v body) (composite_of s v (set_of l) body)
+meaning_as Id s v l body = unit Id s v body
 
 abbrev pub meaning_of : Item → Meaning
 meaning_of i = meaning_as i.main_type i.subtype i.version i.length_number i.body
@@ -83,18 +84,18 @@ meaning_of i = meaning_as i.main_type i.subtype i.version i.length_number i.body
 
 -- the length number of a unit's body of n bytes
 unfoldable pub unit_length_number : MainType → ℕ → ℕ
-unit_length_number META n = n / 4 - 1
-unit_length_number SEMANTIC n = n / 4 - 1
-unit_length_number CONTENT n = n / 4 - 1
-unit_length_number DATA n = n / 4 - 1
-unit_length_number INSTANCE n = n / 4 - 1
-unit_length_number ISCC n = 0
-unit_length_number ID n = n - 8
+unit_length_number Meta n = n / 4 - 1
+unit_length_number Semantic n = n / 4 - 1
+unit_length_number Content n = n / 4 - 1
+unit_length_number Data n = n / 4 - 1
+unit_length_number Instance n = n / 4 - 1
+unit_length_number Iscc n = 0
+unit_length_number Id n = n - 8
 
 unfoldable pub item_of : Meaning → Item
 item_of (unit m s v body) =
     record { main_type = m; subtype = s; version = v; length_number = unit_length_number m (length body); body = body }
 item_of (composite s v units bodies) =
-    record { main_type = ISCC; subtype = s; version = v; length_number = set_length_number units; body = flatten bodies }
+    record { main_type = Iscc; subtype = s; version = v; length_number = set_length_number units; body = flatten bodies }
 item_of (wide s v da ins) =
-    record { main_type = ISCC; subtype = s; version = v; length_number = 0; body = da ++ ins }
+    record { main_type = Iscc; subtype = s; version = v; length_number = 0; body = da ++ ins }

@@ -5,7 +5,8 @@ use Rattle.std.proofs.Math.Option.{Option, none, some}
 use mathlib.Core.List.{List, [], ◌∷◌, ◌++◌, map, zip_with}
 use Rattle.iscc.specs.Answer.{Answer, accept, refuse, ◌>>=◌, ◌>>◌, ◌otherwise◌, into}
 use Rattle.iscc.specs.Refusals.{bad_header, not_permitted, not_joinable, not_64_bits, main_type_twice, lacks_data_or_instance, subtypes_differ}
-use Rattle.iscc.specs.Permitted.{MainType, META, SEMANTIC, CONTENT, DATA, INSTANCE, ISCC, ID, number, Set, unit_types}
+use Rattle.iscc.specs.Permitted.{MainType, number, Set, unit_types}
+use Rattle.iscc.specs.declared.main_type.MainType.TheVariants.{Meta, Semantic, Content, Data, Instance, Iscc, Id}
 use Rattle.iscc.specs.Meaning.{Meaning, unit, composite, wide}
 use Rattle.iscc.specs.Item.{Item, item_bytes, item_of, read_item, read_one, meaning_of}
 
@@ -29,7 +30,7 @@ same_type a b = eqb (number a) (number b)
 
 -- 10: no composite, and no ID
 abbrev pub joinable : Item → Bool
-joinable i = not (same_type i.main_type ISCC || same_type i.main_type ID)
+joinable i = not (same_type i.main_type Iscc || same_type i.main_type Id)
 
 -- 11: 64 bits
 abbrev pub is_64_bits : Item → Bool
@@ -41,7 +42,7 @@ other_type i j = not (same_type i.main_type j.main_type)
 
 -- 14: SEMANTIC and CONTENT, where both are in, share their subtype
 abbrev pub takes_subtype : MainType → Bool
-takes_subtype m = same_type m SEMANTIC || same_type m CONTENT
+takes_subtype m = same_type m Semantic || same_type m Content
 
 abbrev pub has_subtype : Item → Bool
 has_subtype i = takes_subtype i.main_type
@@ -71,7 +72,7 @@ abbrev pub has : MainType → List Item → Bool
 has m is = is_in (body_in m is)
 
 abbrev pub set_in : List Item → Set
-set_in is = record { meta = has META is; semantic = has SEMANTIC is; content = has CONTENT is }
+set_in is = record { meta = has Meta is; semantic = has Semantic is; content = has Content is }
 
 abbrev pub bodies_in : List MainType → List Item → List (List ℕ)
 bodies_in ms is = map (λ m. bytes_in (body_in m is)) ms
@@ -79,9 +80,9 @@ bodies_in ms is = map (λ m. bytes_in (body_in m is)) ms
 -- the composite's subtype: 5 with neither, 6 with META alone, and otherwise what SEMANTIC and CONTENT share
 unfoldable pub subtype_of : List Item → ℕ
 subtype_of is =
-    cond (has SEMANTIC is) (subtype_in SEMANTIC is)
-    (cond (has CONTENT is) (subtype_in CONTENT is)
-    (cond (has META is) 6 5))
+    cond (has Semantic is) (subtype_in Semantic is)
+    (cond (has Content is) (subtype_in Content is)
+    (cond (has Meta is) 6 5))
 
 -- the composite that a list makes: the main types in it as its units, and their bodies in the composite's order
 unfoldable pub composite_from : List Item → Answer Meaning
@@ -89,7 +90,7 @@ composite_from is = do
   every joinable is otherwise not_joinable
   every is_64_bits is otherwise not_64_bits
   pairwise other_type is otherwise main_type_twice
-  (has DATA is && has INSTANCE is) otherwise lacks_data_or_instance
+  (has Data is && has Instance is) otherwise lacks_data_or_instance
   pairwise shared_subtype is otherwise subtypes_differ
   accept (composite (subtype_of is) 0 (set_in is) (bodies_in (unit_types (set_in is)) is))
 
@@ -135,7 +136,7 @@ unit_with s m body = unit64 m (cond (takes_subtype m) s 0) body
 unfoldable pub units_of : Meaning → Answer (List Item)
 units_of (unit m s v body) = refuse not_permitted
 units_of (composite s v units bodies) = accept (zip_with (unit_with s) (unit_types units) bodies)
-units_of (wide s v da ins) = accept (unit128 DATA da ∷ unit128 INSTANCE ins ∷ [])
+units_of (wide s v da ins) = accept (unit128 Data da ∷ unit128 Instance ins ∷ [])
 
 unfoldable pub items_bytes : List Item → List ℕ
 items_bytes [] = []

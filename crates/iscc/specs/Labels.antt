@@ -7,7 +7,8 @@ use Rattle.iscc.specs.Ascii.{ascii}
 use Rattle.iscc.specs.Digits.{digit_count}
 use Rattle.iscc.specs.Varnibble.{write_varnibble}
 use Rattle.iscc.specs.Header.{header_with_numbers, write_header, read_header}
-use Rattle.iscc.specs.Permitted.{ISCC, ID, number, body_bytes}
+use Rattle.iscc.specs.Permitted.{number, body_bytes}
+use Rattle.iscc.specs.declared.main_type.MainType.TheVariants.{Iscc, Id}
 use Rattle.iscc.specs.Item.{read_item, write_unit}
 use Rattle.iscc.specs.Doors.{intake}
 use Rattle.iscc.specs.Distance.{distance}
@@ -50,8 +51,8 @@ pub record RunLabels : Type 0 where
   pub scheme_alone : intake (ascii "ISCC:") 73 ≡ refuse (refusal 1)
   pub hyphen_alone : intake (ascii "-") 73 ≡ refuse (refusal 1)
   pub three_spaces : intake (ascii "   ") 73 ≡ refuse (refusal 1)
-  pub sizes : map (λ l. (2 + body_bytes ISCC 0 l)) (0 ∷ 1 ∷ 3 ∷ 7 ∷ []) ≡ 18 ∷ 26 ∷ 34 ∷ 42 ∷ []
-  pub wide_size : 2 + body_bytes ISCC 7 0 ≡ 34
+  pub sizes : map (λ l. (2 + body_bytes Iscc 0 l)) (0 ∷ 1 ∷ 3 ∷ 7 ∷ []) ≡ 18 ∷ 26 ∷ 34 ∷ 42 ∷ []
+  pub wide_size : 2 + body_bytes Iscc 7 0 ≡ 34
   pub characters : map (digit_count 5) (18 ∷ 26 ∷ 34 ∷ 42 ∷ []) ≡ 29 ∷ 42 ∷ 55 ∷ 68 ∷ []
   pub line_case : line_program (ascii "GAAW2PRCRS5LNVZV-IAAUVACQKXE3V44W\niscc:maagztfqttvizpjr\n\nIscc:Maagztfqttvizpjr\n")
       ≡ ascii "ISCC:KUAG2PRCRS5LNVZVJKAFAVOJXLZZM\nISCC:MAAGZTFQTTVIZPJR\nrefused 1\nISCC:MAAGZTFQTTVIZPJR\n"
@@ -68,5 +69,5 @@ pub record PinnedDefinitions : Type 0 where
   pub returns : intake (ascii "\rGAAW2PRCRS5LNVZV\r") 73 ≡ accept (ascii "ISCC:GAAW2PRCRS5LNVZV")
   pub feeds : intake (ascii "\nGAAW2PRCRS5LNVZV\n") 73 ≡ accept (ascii "ISCC:GAAW2PRCRS5LNVZV")
   -- ID has subtype 5, and not 6
-  pub id5 : write_unit (header_with_numbers (number ID) 5 0 0) (ascii "8 bytes.") 10 ≡ accept (0x65 ∷ 0x00 ∷ ascii "8 bytes.")
-  pub id6 : write_unit (header_with_numbers (number ID) 6 0 0) (ascii "8 bytes.") 10 ≡ refuse (refusal 8)
+  pub id5 : write_unit (header_with_numbers (number Id) 5 0 0) (ascii "8 bytes.") 10 ≡ accept (0x65 ∷ 0x00 ∷ ascii "8 bytes.")
+  pub id6 : write_unit (header_with_numbers (number Id) 6 0 0) (ascii "8 bytes.") 10 ≡ refuse (refusal 8)

@@ -2,6 +2,7 @@
 -- text, digits, alphabets, base32), then its sections in their order, but the order of refusals behind them, since it is that of
 -- every call; then what is promised of them: codes and texts, the demands; then the code's types as their values, and the labels.
 pub mod Refusals
+pub mod Detailed
 pub mod Answer
 pub mod Lists
 pub mod Ascii

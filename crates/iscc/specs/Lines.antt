@@ -1,4 +1,5 @@
 -- The specification, "The line program": what it writes for what it reads.
+use Rattle.iscc.specs.Refusals.{refusal_number}
 use Rattle.std.specs.Prelude.{ℕ, ◌+◌, ◌/◌, ◌%◌, cond, List, [], ◌∷◌, ◌++◌, eqb, ltb}
 use Rattle.iscc.specs.Answer.{Answer, accept, refuse}
 use Rattle.iscc.specs.Ascii.{ascii}
@@ -25,7 +26,7 @@ refused_word = ascii "refused "
 -- intake's text, or the word refused, a space and the number
 unfoldable pub line_answer : Answer (List ℕ) → List ℕ
 line_answer (accept out) = out
-line_answer (refuse n) = refused_word ++ decimal n.number
+line_answer (refuse n) = refused_word ++ decimal (refusal_number n)
 
 unfoldable pub line_answers : List (List ℕ) → List ℕ
 line_answers [] = []

@@ -2,35 +2,38 @@
 use Rattle.std.specs.Prelude.{ℕ, ◌+◌, ◌*◌, Bool, true, false, cond, ◌&&◌, ◌||◌, List, [], ◌∷◌, ◌++◌, get_or, eqb, leb, ltb}
 use Rattle.iscc.specs.Answer.{Answer, accept, ◌>>◌, ◌otherwise◌}
 use Rattle.iscc.specs.Refusals.{not_permitted}
+use Rattle.iscc.specs.declared.main_type.MainType as declared
+use Rattle.iscc.specs.declared.main_type.MainType.TheVariants.{Meta, Semantic, Content, Data, Instance, Iscc, Id}
 
-pub data MainType : Type 0 where
-  META SEMANTIC CONTENT DATA INSTANCE ISCC ID : MainType
+-- a main type is the code's own (src/main_type.rt), and a number in a header
+abbrev pub MainType : Type 0
+MainType = declared.MainType
 
 abbrev pub number : MainType → ℕ
-number META = 0
-number SEMANTIC = 1
-number CONTENT = 2
-number DATA = 3
-number INSTANCE = 4
-number ISCC = 5
-number ID = 6
+number Meta = 0
+number Semantic = 1
+number Content = 2
+number Data = 3
+number Instance = 4
+number Iscc = 5
+number Id = 6
 
 -- every main type but a composite's is a unit's
 abbrev pub is_unit : MainType → Bool
-is_unit META = true
-is_unit SEMANTIC = true
-is_unit CONTENT = true
-is_unit DATA = true
-is_unit INSTANCE = true
-is_unit ISCC = false
-is_unit ID = true
+is_unit Meta = true
+is_unit Semantic = true
+is_unit Content = true
+is_unit Data = true
+is_unit Instance = true
+is_unit Iscc = false
+is_unit Id = true
 
 abbrev pub main_types : List MainType
-main_types = META ∷ SEMANTIC ∷ CONTENT ∷ DATA ∷ INSTANCE ∷ ISCC ∷ ID ∷ []
+main_types = Meta ∷ Semantic ∷ Content ∷ Data ∷ Instance ∷ Iscc ∷ Id ∷ []
 
 -- the main type of a number below 7
 unfoldable pub type_of : ℕ → MainType
-type_of n = get_or main_types n ID
+type_of n = get_or main_types n Id
 
 -- main type 7 and above are refused (8)
 unfoldable pub main_type_of : ℕ → Answer MainType
@@ -80,7 +83,7 @@ only true m = m ∷ []
 only false m = []
 
 unfoldable pub unit_types : Set → List MainType
-unit_types s = only s.meta META ++ only s.semantic SEMANTIC ++ only s.content CONTENT ++ (DATA ∷ INSTANCE ∷ [])
+unit_types s = only s.meta Meta ++ only s.semantic Semantic ++ only s.content Content ++ (Data ∷ Instance ∷ [])
 
 -- a composite's subtype: 5 for length 0, 6 for length 4, and otherwise 0 to 4
 unfoldable pub composite_subtype : ℕ → ℕ → Bool
@@ -92,13 +95,13 @@ is_wide s l = eqb s 7 && eqb l 0
 
 -- the table's rows: main type, subtype, length number
 unfoldable pub row : MainType → ℕ → ℕ → Bool
-row META s l = eqb s 0 && leb l 7
-row SEMANTIC s l = leb s 4 && leb l 7
-row CONTENT s l = leb s 4 && leb l 7
-row DATA s l = eqb s 0 && leb l 7
-row INSTANCE s l = eqb s 0 && leb l 7
-row ISCC s l = is_wide s l || (composite_subtype l s && leb l 7)
-row ID s l = leb s 5 && leb l 4
+row Meta s l = eqb s 0 && leb l 7
+row Semantic s l = leb s 4 && leb l 7
+row Content s l = leb s 4 && leb l 7
+row Data s l = eqb s 0 && leb l 7
+row Instance s l = eqb s 0 && leb l 7
+row Iscc s l = is_wide s l || (composite_subtype l s && leb l 7)
+row Id s l = leb s 5 && leb l 4
 
 -- version is always 0
 abbrev pub permits : MainType → ℕ → ℕ → ℕ → Bool
@@ -106,10 +109,10 @@ permits m s v l = eqb v 0 && row m s l
 
 -- the body in bytes, by the same columns: (length + 1) x 32 bits; 64 bits a unit, or 128 if it is wide; 64 + length x 8 bits
 unfoldable pub body_bytes : MainType → ℕ → ℕ → ℕ
-body_bytes META s l = (l + 1) * 4
-body_bytes SEMANTIC s l = (l + 1) * 4
-body_bytes CONTENT s l = (l + 1) * 4
-body_bytes DATA s l = (l + 1) * 4
-body_bytes INSTANCE s l = (l + 1) * 4
-body_bytes ISCC s l = cond (is_wide s l) 32 (unit_count (set_of l) * 8)
-body_bytes ID s l = 8 + l
+body_bytes Meta s l = (l + 1) * 4
+body_bytes Semantic s l = (l + 1) * 4
+body_bytes Content s l = (l + 1) * 4
+body_bytes Data s l = (l + 1) * 4
+body_bytes Instance s l = (l + 1) * 4
+body_bytes Iscc s l = cond (is_wide s l) 32 (unit_count (set_of l) * 8)
+body_bytes Id s l = 8 + l

@@ -8,7 +8,8 @@ use Rattle.iscc.specs.Alphabet.{Alphabet, digit_in, is_digit, encode, decode}
 use Rattle.iscc.specs.Base32.{base32}
 use Rattle.iscc.specs.Varnibble.{Parsed, row_by}
 use Rattle.iscc.specs.Header.{Header, nibbles, raw_header, read_header}
-use Rattle.iscc.specs.Permitted.{DATA, INSTANCE, ISCC, number, is_unit, type_of, permits, body_bytes}
+use Rattle.iscc.specs.Permitted.{number, is_unit, type_of, permits, body_bytes}
+use Rattle.iscc.specs.declared.main_type.MainType.TheVariants.{Data, Instance, Iscc}
 use Rattle.iscc.specs.Item.{Item, read_item, read_one, unit_bytes}
 use Rattle.iscc.specs.Items.{same_type, joinable, is_64_bits, other_type, shared_subtype, has, read_items, joined_bytes, split_bytes}
 use Rattle.iscc.specs.Doors.{cleaned, payload, meaning_of_text, text_of}
@@ -90,14 +91,14 @@ abbrev pub clear_at : (Item → Item → Bool) → List Item → ℕ → Bool
 clear_at r is j = head_holds (λ x. every (λ e. r e x) (take j is)) (drop j is)
 
 abbrev pub present : Bool → Bool → ℕ → Bool
-present da ins m = cond (eqb m (number DATA)) da (cond (eqb m (number INSTANCE)) ins true)
+present da ins m = cond (eqb m (number Data)) da (cond (eqb m (number Instance)) ins true)
 
 unfoldable pub list_stages : List Item → List (List Rule)
 list_stages is =
     rule not_joinable (item_at joinable is)
     ∷ rule not_64_bits (item_at is_64_bits is)
     ∷ rule main_type_twice (clear_at other_type is)
-    ∷ rule lacks_data_or_instance (present (has DATA is) (has INSTANCE is))
+    ∷ rule lacks_data_or_instance (present (has Data is) (has Instance is))
     ∷ rule subtypes_differ (clear_at shared_subtype is)
     ∷ []
 
@@ -162,7 +163,7 @@ unfoldable pub join_stages : List Item → List (List Rule)
 join_stages [] = []
 join_stages (i ∷ []) =
     rule not_joinable (item_at joinable (i ∷ []))
-    ∷ rule lacks_data_or_instance (present (has DATA (i ∷ [])) (has INSTANCE (i ∷ [])))
+    ∷ rule lacks_data_or_instance (present (has Data (i ∷ [])) (has Instance (i ∷ [])))
     ∷ []
 join_stages (i ∷ j ∷ is) = list_stages (i ∷ j ∷ is)
 
@@ -176,7 +177,7 @@ one_stages bs = unit_stages bs ++ where_accepted (read_item bs) (λ g. once byte
 -- split: "7, 8, 9, 19; then 8 for anything but a composite; then 15 if the area is shorter than the units"
 unfoldable pub split_stages : List ℕ → ℕ → List (List Rule)
 split_stages bs area =
-    (one_stages bs ++ where_accepted (read_one bs) (λ i. once not_permitted (same_type i.main_type ISCC) ∷ []))
+    (one_stages bs ++ where_accepted (read_one bs) (λ i. once not_permitted (same_type i.main_type Iscc) ∷ []))
     ++ area_stages area (split_bytes bs)
 
 -- the distance: "7, 8, 9, 19 on the first; the same on the second; then 18"

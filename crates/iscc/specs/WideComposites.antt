@@ -7,7 +7,8 @@ use Rattle.iscc.specs.Alphabet.{encode}
 use Rattle.iscc.specs.Base32.{base32}
 use Rattle.iscc.specs.Varnibble.{parsed}
 use Rattle.iscc.specs.Header.{Header, header_with_numbers, Writable, header_bytes}
-use Rattle.iscc.specs.Permitted.{DATA, INSTANCE, ISCC, number}
+use Rattle.iscc.specs.Permitted.{number}
+use Rattle.iscc.specs.declared.main_type.MainType.TheVariants.{Data, Instance, Iscc}
 use Rattle.iscc.specs.Meaning.{Meaning, unit, composite, wide, Sized, Permitted}
 use Rattle.iscc.specs.Item.{Item, read_item, read_one, unit_bytes, meaning_of}
 use Rattle.iscc.specs.Items.{meaning_of_items, joined_meaning, joined_bytes, unit128, items_bytes, split_bytes}
@@ -19,7 +20,7 @@ abbrev pub wide_bytes : List ℕ → List ℕ → List ℕ
 wide_bytes da ins = 0x57 ∷ 0x00 ∷ (da ++ ins)
 
 abbrev pub wide_item : List ℕ → List ℕ → Item
-wide_item da ins = record { main_type = ISCC; subtype = 7; version = 0; length_number = 0; body = da ++ ins }
+wide_item da ins = record { main_type = Iscc; subtype = 7; version = 0; length_number = 0; body = da ++ ins }
 
 -- a meaning of the third kind
 abbrev pub is_wide_meaning : Meaning → Bool
@@ -42,11 +43,11 @@ pub record WideComposite (da ins : List ℕ) : Type 0 where
   -- a kind of its own: no unit and no composite of the eight sets has its text
   pub own_kind : (m : Meaning) → Permitted m → is_wide_meaning m ≡ false → text_of m ≡ text_of (wide 7 0 da ins) → ⊥
   -- split gives two units of 128 bits
-  pub splits : split_bytes (wide_bytes da ins) ≡ accept (items_bytes (unit128 DATA da ∷ unit128 INSTANCE ins ∷ []))
+  pub splits : split_bytes (wide_bytes da ins) ≡ accept (items_bytes (unit128 Data da ∷ unit128 Instance ins ∷ []))
   -- which are 11 for join, and as a list, in either order
-  pub parts_joined : joined_bytes (items_bytes (unit128 DATA da ∷ unit128 INSTANCE ins ∷ [])) ≡ refuse not_64_bits
-  pub listed : meaning_of_items (unit128 DATA da ∷ unit128 INSTANCE ins ∷ []) ≡ refuse not_64_bits
-  pub listed_around : meaning_of_items (unit128 INSTANCE ins ∷ unit128 DATA da ∷ []) ≡ refuse not_64_bits
+  pub parts_joined : joined_bytes (items_bytes (unit128 Data da ∷ unit128 Instance ins ∷ [])) ≡ refuse not_64_bits
+  pub listed : meaning_of_items (unit128 Data da ∷ unit128 Instance ins ∷ []) ≡ refuse not_64_bits
+  pub listed_around : meaning_of_items (unit128 Instance ins ∷ unit128 Data da ∷ []) ≡ refuse not_64_bits
   -- in a list it is 10, for join also alone
   pub in_list : (is js : List Item) → 2 ≤ length (is ++ (wide_item da ins ∷ js)) → meaning_of_items (is ++ (wide_item da ins ∷ js)) ≡ refuse not_joinable
   pub in_join : (is js : List Item) → joined_meaning (is ++ (wide_item da ins ∷ js)) ≡ refuse not_joinable
@@ -59,8 +60,8 @@ pub record WideComposites : Type 0 where
   -- there are no others
   pub only : (s v : ℕ) (da ins : List ℕ) → Permitted (wide s v da ins) → (s ≡ 7) × (v ≡ 0) × Sized 16 da × Sized 16 ins
   -- subtype 7 with another length is 8
-  pub other_length : (v l : ℕ) (rest : List ℕ) → 0 < l → Writable (header_with_numbers (number ISCC) 7 v l)
-      → read_item (header_bytes (header_with_numbers (number ISCC) 7 v l) ++ rest) ≡ refuse not_permitted
+  pub other_length : (v l : ℕ) (rest : List ℕ) → 0 < l → Writable (header_with_numbers (number Iscc) 7 v l)
+      → read_item (header_bytes (header_with_numbers (number Iscc) 7 v l) ++ rest) ≡ refuse not_permitted
   -- 57 00 without its 32 bytes is 9
   pub cut_off : (rest : List ℕ) → length rest < 32 → read_item (0x57 ∷ 0x00 ∷ rest) ≡ refuse short_body
   -- intake is its one writer: a list never means one,
@@ -68,4 +69,4 @@ pub record WideComposites : Type 0 where
   -- join never makes one,
   pub not_from_join : (bs out : List ℕ) (i : Item) → Below 256 bs → joined_bytes bs ≡ accept out → read_one out ≡ accept i → is_wide_meaning (meaning_of i) ≡ false
   -- and the unit writer refuses every composite: 8
-  pub not_from_writer : (h : Header) (body : List ℕ) → h.main_type ≡ number ISCC → unit_bytes h body ≡ refuse not_permitted
+  pub not_from_writer : (h : Header) (body : List ℕ) → h.main_type ≡ number Iscc → unit_bytes h body ≡ refuse not_permitted

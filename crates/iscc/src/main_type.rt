@@ -1,74 +1,70 @@
-// Main types by name. The number is private, so outside this crate a bare number is never passed for a main type.
-ghost use Rattle.std.specs.Prelude.{◌≡◌, eqb, map};
-ghost use Rattle.iscc.specs.Permitted.{main_type_of, main_types};
-ghost use Rattle.iscc.specs.Representation.{named_as, main_type_as};
+// Main types by name.
+ghost use Rattle.std.specs.Prelude.{◌≡◌};
+ghost use Rattle.iscc.specs.Items.{takes_subtype};
+ghost use Rattle.iscc.specs.Permitted.{main_type_of, main_types, number};
+ghost use Rattle.iscc.specs.Representation.{result_of};
 
 use crate::refusal::Refusal;
 
-// A main type of the specification.
-#[derive(Clone, Copy)]
-pub struct MainType {
-    number: u8,
-}
-
-// What a number names.
-#[derive(Clone, Copy)]
-pub enum Named {
-    MainType(MainType),
-    Refused(Refusal),
+// A main type of the specification, with its number in a header. The definitions in specs/ speak of this very type.
+#[derive(Clone, Copy, Debug, PartialEq, Eq)]
+pub enum MainType {
+    Meta = 0,
+    Semantic = 1,
+    Content = 2,
+    Data = 3,
+    Instance = 4,
+    Iscc = 5,
+    Id = 6,
 }
 
 impl MainType {
-    pub const META: MainType = MainType { number: 0 };
-
-    pub const SEMANTIC: MainType = MainType { number: 1 };
-
-    pub const CONTENT: MainType = MainType { number: 2 };
-
-    pub const DATA: MainType = MainType { number: 3 };
-
-    pub const INSTANCE: MainType = MainType { number: 4 };
-
-    pub const ISCC: MainType = MainType { number: 5 };
-
-    pub const ID: MainType = MainType { number: 6 };
-
     // Every main type in the order of the table: ties the names above to those of the definitions.
     pub fn all() -> [MainType; 7]
-        ensures { result ≡ map main_type_as main_types }
+        ensures { result ≡ main_types }
     {
         [
-            MainType::META,
-            MainType::SEMANTIC,
-            MainType::CONTENT,
-            MainType::DATA,
-            MainType::INSTANCE,
-            MainType::ISCC,
-            MainType::ID,
+            MainType::Meta,
+            MainType::Semantic,
+            MainType::Content,
+            MainType::Data,
+            MainType::Instance,
+            MainType::Iscc,
+            MainType::Id,
         ]
     }
 
-    // The main type of a number: 7 and above are refused (8).
-    pub fn from_number(number: u32) -> Named
-        ensures { result ≡ named_as (main_type_of number) }
-    {
-        if number < 7 {
-            return Named::MainType(MainType {
-                number: number as u8,
-            });
-        }
-        Named::Refused(Refusal::NOT_PERMITTED)
-    }
-
     pub fn number(self) -> u32
-        ensures { result ≡ self.number }
+        ensures { result ≡ number self }
     {
-        self.number as u32
+        self as u32
     }
 
-    pub fn is(self, other: MainType) -> bool
-        ensures { result ≡ eqb self.number other.number }
+    // SEMANTIC and CONTENT have subtypes of their own.
+    pub fn takes_subtype(self) -> bool
+        ensures { result ≡ takes_subtype self }
     {
-        self.number == other.number
+        matches!(self, MainType::Semantic | MainType::Content)
+    }
+}
+
+// The main type of a number: 7 and above are refused (8).
+impl TryFrom<u32> for MainType {
+    type Error = Refusal;
+
+    ghost try_from_gives = { λ n r. r ≡ result_of (main_type_of n) };
+
+    #[tactic(auto, unfolding(crate::specs::Permitted::main_type_of, crate::specs::Permitted::type_of, crate::specs::Representation::result_of))]
+    fn try_from(number: u32) -> Result<MainType, Refusal> {
+        match number {
+            0 => Ok(MainType::Meta),
+            1 => Ok(MainType::Semantic),
+            2 => Ok(MainType::Content),
+            3 => Ok(MainType::Data),
+            4 => Ok(MainType::Instance),
+            5 => Ok(MainType::Iscc),
+            6 => Ok(MainType::Id),
+            _ => Err(Refusal::NotPermitted),
+        }
     }
 }

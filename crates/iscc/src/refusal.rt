@@ -1,135 +1,174 @@
-// The specification, "Numbers of refusal and their order": each number by name.
+// The specification, "Numbers of refusal and their order": each refusal by name.
 ghost use Rattle.std.specs.Prelude.{◌≡◌};
-ghost use Rattle.iscc.specs.Refusals.{refusals};
+ghost use Rattle.iscc.specs.Refusals.{refusals, refusal_number};
+ghost use Rattle.iscc.specs.Detailed.{with_detail, plain};
 
-// Why a call refused. The definitions in specs/ speak of this very type.
-#[derive(Clone, Copy)]
-pub struct Refusal {
-    pub number: u32,
+// Why a call refused, with its number in the table. The definitions in specs/ speak of this very type.
+#[derive(Clone, Copy, Debug, PartialEq, Eq)]
+pub enum Refusal {
+    // Nothing is left after the dropping.
+    EmptyText = 1,
+
+    // The text is longer than 1,024 bytes.
+    LongText = 2,
+
+    // More than 80 characters are left.
+    LongRun = 3,
+
+    // A character is outside the alphabet.
+    BadCharacter = 4,
+
+    // The count of characters leaves 1, 3 or 6 over a multiple of 8.
+    BadCount = 5,
+
+    // A spare bit after the last whole byte is not zero.
+    SpareBits = 6,
+
+    // A header is cut, has the prefix 1111, or a pad nibble that is not zero.
+    BadHeader = 7,
+
+    // A header is not permitted, or not there: a composite for the unit writer, anything else for split.
+    NotPermitted = 8,
+
+    // Fewer body bytes than the header says.
+    ShortBody = 9,
+
+    // Two or more items, one being a composite or an ID; or join of one item that is such.
+    NotJoinable = 10,
+
+    // A unit in a list is not of 64 bits.
+    Not64Bits = 11,
+
+    // A main type is twice in a list.
+    MainTypeTwice = 12,
+
+    // A list lacks DATA or INSTANCE.
+    LacksDataOrInstance = 13,
+
+    // SEMANTIC and CONTENT differ in subtype.
+    SubtypesDiffer = 14,
+
+    // The output area is too short.
+    AreaTooShort = 15,
+
+    // Strict door: intake accepts, but would write another text.
+    OtherText = 16,
+
+    // A number above 4679 to be written as a varnibble.
+    NumberTooLarge = 17,
+
+    // Two units that have no distance.
+    NoDistance = 18,
+
+    // Bytes left over where exactly one unit is wanted.
+    BytesLeftOver = 19,
+
+    // The code is out already.
+    AlreadyOut = 20,
+
+    // 256 others are out.
+    AllOut = 21,
+
+    // The code is not out.
+    NotOut = 22,
+
+    // The area is not a register.
+    NotRegister = 23,
+
+    // No record of the log: another tag, code bytes that are not exactly one unit or composite, or record number 0.
+    NotRecord = 24,
+
+    // The record is not the next: others before it are missing.
+    NumberGap = 25,
+
+    // The last record number is taken.
+    NumbersSpent = 26,
+
+    // Promotion: only the last numbers differ.
+    LastNumbersDiffer = 27,
+
+    // Promotion: the log is torn.
+    LogTorn = 36,
+
+    // Promotion: a code is held by one register only, or with another borrower.
+    LoansDiffer = 37,
+}
+
+// Why a call refused, and what the refusal tells: an offset, an item's index or a main type's number; 0 where it tells nothing.
+#[derive(Clone, Copy, Debug, PartialEq, Eq)]
+pub struct DetailedRefusal {
+    pub refusal: Refusal,
+    pub detail: usize,
 }
 
 impl Refusal {
-    // Nothing is left after the dropping.
-    pub const EMPTY_TEXT: Refusal = Refusal { number: 1 };
+    pub fn number(self) -> u32
+        ensures { result ≡ refusal_number self }
+    {
+        self as u32
+    }
 
-    // The text is longer than 1,024 bytes.
-    pub const LONG_TEXT: Refusal = Refusal { number: 2 };
-
-    // More than 80 characters are left.
-    pub const LONG_RUN: Refusal = Refusal { number: 3 };
-
-    // A character is outside the alphabet.
-    pub const BAD_CHARACTER: Refusal = Refusal { number: 4 };
-
-    // The count of characters leaves 1, 3 or 6 over a multiple of 8.
-    pub const BAD_COUNT: Refusal = Refusal { number: 5 };
-
-    // A spare bit after the last whole byte is not zero.
-    pub const SPARE_BITS: Refusal = Refusal { number: 6 };
-
-    // A header is cut, has the prefix 1111, or a pad nibble that is not zero.
-    pub const BAD_HEADER: Refusal = Refusal { number: 7 };
-
-    // A header is not permitted, or not there: a composite for the unit writer, anything else for split.
-    pub const NOT_PERMITTED: Refusal = Refusal { number: 8 };
-
-    // Fewer body bytes than the header says.
-    pub const SHORT_BODY: Refusal = Refusal { number: 9 };
-
-    // Two or more items, one being a composite or an ID; or join of one item that is such.
-    pub const NOT_JOINABLE: Refusal = Refusal { number: 10 };
-
-    // A unit in a list is not of 64 bits.
-    pub const NOT_64_BITS: Refusal = Refusal { number: 11 };
-
-    // A main type is twice in a list.
-    pub const MAIN_TYPE_TWICE: Refusal = Refusal { number: 12 };
-
-    // A list lacks DATA or INSTANCE.
-    pub const LACKS_DATA_OR_INSTANCE: Refusal = Refusal { number: 13 };
-
-    // SEMANTIC and CONTENT differ in subtype.
-    pub const SUBTYPES_DIFFER: Refusal = Refusal { number: 14 };
-
-    // The output area is too short.
-    pub const AREA_TOO_SHORT: Refusal = Refusal { number: 15 };
-
-    // Strict door: intake accepts, but would write another text.
-    pub const OTHER_TEXT: Refusal = Refusal { number: 16 };
-
-    // A number above 4679 to be written as a varnibble.
-    pub const NUMBER_TOO_LARGE: Refusal = Refusal { number: 17 };
-
-    // Two units that have no distance.
-    pub const NO_DISTANCE: Refusal = Refusal { number: 18 };
-
-    // Bytes left over where exactly one unit is wanted.
-    pub const BYTES_LEFT_OVER: Refusal = Refusal { number: 19 };
-
-    // The code is out already.
-    pub const ALREADY_OUT: Refusal = Refusal { number: 20 };
-
-    // 256 others are out.
-    pub const ALL_OUT: Refusal = Refusal { number: 21 };
-
-    // The code is not out.
-    pub const NOT_OUT: Refusal = Refusal { number: 22 };
-
-    // The area is not a register.
-    pub const NOT_REGISTER: Refusal = Refusal { number: 23 };
-
-    // No record of the log: another tag, code bytes that are not exactly one unit or composite, or record number 0.
-    pub const NOT_RECORD: Refusal = Refusal { number: 24 };
-
-    // The record is not the next: others before it are missing.
-    pub const NUMBER_GAP: Refusal = Refusal { number: 25 };
-
-    // The last record number is taken.
-    pub const NUMBERS_SPENT: Refusal = Refusal { number: 26 };
-
-    // Promotion: only the last numbers differ.
-    pub const LAST_NUMBERS_DIFFER: Refusal = Refusal { number: 27 };
-
-    // Promotion: the log is torn.
-    pub const LOG_TORN: Refusal = Refusal { number: 36 };
-
-    // Promotion: a code is held by one register only, or with another borrower.
-    pub const LOANS_DIFFER: Refusal = Refusal { number: 37 };
+    pub fn with_detail(self, detail: usize) -> DetailedRefusal
+        ensures { result ≡ with_detail detail self }
+    {
+        DetailedRefusal {
+            refusal: self,
+            detail,
+        }
+    }
 
     // Every refusal in the order of the table: ties the names above to those of the definitions.
     pub fn all() -> [Refusal; 29]
         ensures { result ≡ refusals }
     {
         [
-            Refusal::EMPTY_TEXT,
-            Refusal::LONG_TEXT,
-            Refusal::LONG_RUN,
-            Refusal::BAD_CHARACTER,
-            Refusal::BAD_COUNT,
-            Refusal::SPARE_BITS,
-            Refusal::BAD_HEADER,
-            Refusal::NOT_PERMITTED,
-            Refusal::SHORT_BODY,
-            Refusal::NOT_JOINABLE,
-            Refusal::NOT_64_BITS,
-            Refusal::MAIN_TYPE_TWICE,
-            Refusal::LACKS_DATA_OR_INSTANCE,
-            Refusal::SUBTYPES_DIFFER,
-            Refusal::AREA_TOO_SHORT,
-            Refusal::OTHER_TEXT,
-            Refusal::NUMBER_TOO_LARGE,
-            Refusal::NO_DISTANCE,
-            Refusal::BYTES_LEFT_OVER,
-            Refusal::ALREADY_OUT,
-            Refusal::ALL_OUT,
-            Refusal::NOT_OUT,
-            Refusal::NOT_REGISTER,
-            Refusal::NOT_RECORD,
-            Refusal::NUMBER_GAP,
-            Refusal::NUMBERS_SPENT,
-            Refusal::LAST_NUMBERS_DIFFER,
-            Refusal::LOG_TORN,
-            Refusal::LOANS_DIFFER,
+            Refusal::EmptyText,
+            Refusal::LongText,
+            Refusal::LongRun,
+            Refusal::BadCharacter,
+            Refusal::BadCount,
+            Refusal::SpareBits,
+            Refusal::BadHeader,
+            Refusal::NotPermitted,
+            Refusal::ShortBody,
+            Refusal::NotJoinable,
+            Refusal::Not64Bits,
+            Refusal::MainTypeTwice,
+            Refusal::LacksDataOrInstance,
+            Refusal::SubtypesDiffer,
+            Refusal::AreaTooShort,
+            Refusal::OtherText,
+            Refusal::NumberTooLarge,
+            Refusal::NoDistance,
+            Refusal::BytesLeftOver,
+            Refusal::AlreadyOut,
+            Refusal::AllOut,
+            Refusal::NotOut,
+            Refusal::NotRegister,
+            Refusal::NotRecord,
+            Refusal::NumberGap,
+            Refusal::NumbersSpent,
+            Refusal::LastNumbersDiffer,
+            Refusal::LogTorn,
+            Refusal::LoansDiffer,
         ]
+    }
+}
+
+// One that tells nothing more.
+impl From<Refusal> for DetailedRefusal {
+    ghost from_gives = { λ q d. d ≡ with_detail 0 q };
+
+    fn from(refusal: Refusal) -> DetailedRefusal {
+        refusal.with_detail(0)
+    }
+}
+
+// Who wants no detail.
+impl From<DetailedRefusal> for Refusal {
+    ghost from_gives = { λ d q. q ≡ plain d };
+
+    fn from(detailed: DetailedRefusal) -> Refusal {
+        detailed.refusal
     }
 }

@@ -1,39 +1,27 @@
 // The distance of two units.
-use crate::say;
+use crate::say::{Hex, Out};
 use distance::answer::Distance;
+use std::fmt;
+use std::fmt::Write;
 
-fn count(rt: &HostRuntime, n: u16) {
-    say::number(rt, n as u64);
-}
-
-fn answer(rt: &HostRuntime, m: Distance) {
-    say::text(rt, b"d ");
-    count(rt, m.d);
-    say::text(rt, b", n ");
-    count(rt, m.n);
-    if m.ratio == 0.28125 {
-        say::text(rt, b", ratio 0.28125");
+fn answer(out: &mut Out<'_>, m: Distance) -> fmt::Result {
+    let ratio = if m.ratio == 0.28125 {
+        "ratio 0.28125"
     } else {
-        say::text(rt, b", another ratio");
-    }
+        "another ratio"
+    };
+    write!(out, "d {}, n {}, {ratio}", m.d, m.n)
 }
 
-fn distance(rt: &HostRuntime, a: &[u8], b: &[u8]) {
-    say::text(rt, b"distance ");
-    say::hex(rt, a);
-    say::text(rt, b" ");
-    say::hex(rt, b);
-    say::text(rt, b": ");
-    let m = distance::units::distance(a, b);
-    if m.number == 0 {
-        answer(rt, m.distance);
-    } else {
-        say::text(rt, b"refused");
-        say::spaced(rt, m.number);
+fn distance(out: &mut Out<'_>, a: &[u8], b: &[u8]) -> fmt::Result {
+    write!(out, "distance {} {}: ", Hex(a), Hex(b))?;
+    match distance::units::distance(a, b) {
+        Ok(m) => answer(out, m)?,
+        Err(q) => write!(out, "refused {}", q.number())?,
     }
-    say::end(rt);
+    writeln!(out)
 }
 
-pub fn labels(rt: &HostRuntime) {
-    distance(rt, &[0x30, 0, 0, 0, 0, 0], &[0x30, 0, 0xFF, 0, 0, 1]);
+pub fn labels(out: &mut Out<'_>) -> fmt::Result {
+    distance(out, &[0x30, 0, 0, 0, 0, 0], &[0x30, 0, 0xFF, 0, 0, 1])
 }

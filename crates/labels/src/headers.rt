@@ -1,81 +1,63 @@
 // Varnibble numbers and raw headers.
-use crate::say;
+use crate::say::{Hex, Out};
 use header::Header;
-use header::reader::HeaderRead;
-use iscc::written::Written;
+use std::fmt;
+use std::fmt::Write;
 
-fn put(rt: &HostRuntime, h: Header, out: &mut [u8]) {
-    match header::writer::write(h, out) {
-        Written::Length(n) => say::hex(rt, &out[0..n]),
-        Written::Refused(q) => say::refused(rt, q),
+fn put(out: &mut Out<'_>, h: Header) -> fmt::Result {
+    let mut bytes = [0u8; 8];
+    match header::writer::write(h, &mut bytes) {
+        Ok(n) => write!(out, "{}", Hex(&bytes[0..n])),
+        Err(q) => out.refused(q),
     }
 }
 
-fn write(rt: &HostRuntime, main_type: u32, subtype: u32, version: u32, length_number: u32) {
-    say::text(rt, b"header writer");
-    say::spaced(rt, main_type);
-    say::spaced(rt, subtype);
-    say::spaced(rt, version);
-    say::spaced(rt, length_number);
-    say::text(rt, b": ");
-    let mut out = [0u8; 8];
+fn write(out: &mut Out<'_>, main_type: u32, subtype: u32) -> fmt::Result {
+    write!(out, "header writer {main_type} {subtype} 0 0: ")?;
     put(
-        rt,
+        out,
         Header {
             main_type,
             subtype,
-            version,
-            length_number,
+            version: 0,
+            length_number: 0,
         },
-        &mut out,
-    );
-    say::end(rt);
+    )?;
+    writeln!(out)
 }
 
-fn numbers_of(rt: &HostRuntime, h: Header) {
-    say::number(rt, say::widen(h.main_type));
-    say::spaced(rt, h.subtype);
-    say::spaced(rt, h.version);
-    say::spaced(rt, h.length_number);
-}
-
-fn read(rt: &HostRuntime, bytes: &[u8]) {
-    say::text(rt, b"header reader ");
-    say::hex(rt, bytes);
-    say::text(rt, b": ");
+fn read(out: &mut Out<'_>, bytes: &[u8]) -> fmt::Result {
+    write!(out, "header reader {}: ", Hex(bytes))?;
     match header::reader::read(bytes) {
-        HeaderRead::Header(raw) => {
-            numbers_of(rt, raw.header);
-            say::text(rt, b" in ");
-            say::number(rt, raw.used as u64);
-            say::text(rt, b" bytes");
+        Ok(raw) => {
+            let h = raw.header;
+            write!(
+                out,
+                "{} {} {} {} in {} bytes",
+                h.main_type, h.subtype, h.version, h.length_number, raw.used
+            )?;
         }
-        HeaderRead::Refused(q) => say::refused(rt, q),
+        Err(q) => out.refused(q)?,
     }
-    say::end(rt);
+    writeln!(out)
 }
 
 // The ends of each row of varnibbles, written and read as main types.
-pub fn numbers(rt: &HostRuntime) {
-    write(rt, 7, 0, 0, 0);
-    write(rt, 8, 0, 0, 0);
-    write(rt, 71, 0, 0, 0);
-    write(rt, 72, 0, 0, 0);
-    write(rt, 583, 0, 0, 0);
-    write(rt, 584, 0, 0, 0);
-    write(rt, 4679, 0, 0, 0);
-    write(rt, 4680, 0, 0, 0);
-    read(rt, &[0x70, 0]);
-    read(rt, &[0x80, 0, 0]);
-    read(rt, &[0xBF, 0, 0]);
-    read(rt, &[0xC0, 0, 0]);
-    read(rt, &[0xDF, 0xF0, 0]);
-    read(rt, &[0xE0, 0, 0, 0]);
-    read(rt, &[0xEF, 0xFF, 0, 0]);
+pub fn numbers(out: &mut Out<'_>) -> fmt::Result {
+    for main_type in [7, 8, 71, 72, 583, 584, 4679, 4680] {
+        write(out, main_type, 0)?;
+    }
+    read(out, &[0x70, 0])?;
+    read(out, &[0x80, 0, 0])?;
+    read(out, &[0xBF, 0, 0])?;
+    read(out, &[0xC0, 0, 0])?;
+    read(out, &[0xDF, 0xF0, 0])?;
+    read(out, &[0xE0, 0, 0, 0])?;
+    read(out, &[0xEF, 0xFF, 0, 0])
 }
 
-pub fn labels(rt: &HostRuntime) {
-    write(rt, 5, 5, 0, 0);
-    read(rt, &[0x55, 0]);
-    read(rt, &[0x80, 0, 1]);
+pub fn labels(out: &mut Out<'_>) -> fmt::Result {
+    write(out, 5, 5)?;
+    read(out, &[0x55, 0])?;
+    read(out, &[0x80, 0, 1])
 }

@@ -8,13 +8,20 @@ mod say;
 mod texts;
 mod unit_reader;
 
+use say::Out;
+use std::fmt;
+
+fn labels(out: &mut Out<'_>) -> fmt::Result {
+    headers::numbers(out)?;
+    headers::labels(out)?;
+    texts::labels(out)?;
+    texts::short(out)?;
+    texts::published(out)?;
+    unit_reader::labels(out)?;
+    unit_reader::published(out)?;
+    distances::labels(out)
+}
+
 fn main(rt: HostRuntime) {
-    headers::numbers(&rt);
-    headers::labels(&rt);
-    texts::labels(&rt);
-    texts::short(&rt);
-    texts::published(&rt);
-    unit_reader::labels(&rt);
-    unit_reader::published(&rt);
-    distances::labels(&rt);
+    let _ = labels(&mut Out::new(&rt));
 }

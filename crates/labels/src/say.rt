@@ -1,49 +1,45 @@
 // Printing.
 use iscc::refusal::Refusal;
+use std::fmt;
 use std::io::Write;
 
-// That a write fails stops nothing: what is missing shows.
-pub fn text(rt: &HostRuntime, t: &[u8]) {
-    match rt.stdout().write_all(t) {
-        Ok(()) => {}
-        Err(_) => {}
+// Standard output. That a write fails stops nothing: what is missing shows.
+#[derive(Drop)]
+pub struct Out<'a> {
+    rt: &'a HostRuntime,
+}
+
+impl<'a> Out<'a> {
+    pub fn new(rt: &'a HostRuntime) -> Self {
+        Out { rt }
+    }
+
+    pub fn bytes(&mut self, bytes: &[u8]) -> fmt::Result {
+        let _ = self.rt.stdout().write_all(bytes);
+        Ok(())
+    }
+
+    pub fn refused(&mut self, q: Refusal) -> fmt::Result {
+        let number = q.number();
+        fmt::Write::write(self, format_args!("refused {number}"))
     }
 }
 
-pub fn number(rt: &HostRuntime, n: u64) {
-    match print!(rt; "{n}") {
-        Ok(()) => {}
-        Err(_) => {}
+impl fmt::Write for Out<'_> {
+    fn write_str(&mut self, s: &str) -> fmt::Result {
+        self.bytes(s.as_bytes())
     }
 }
 
-pub fn widen(n: u32) -> u64 {
-    n as u64
-}
+// Bytes in hex.
+#[derive(Clone, Copy)]
+pub struct Hex<'a>(pub &'a [u8]);
 
-pub fn refused(rt: &HostRuntime, q: Refusal) {
-    text(rt, b"refused ");
-    number(rt, widen(q.number));
-}
-
-pub fn spaced(rt: &HostRuntime, n: u32) {
-    text(rt, b" ");
-    number(rt, widen(n));
-}
-
-pub fn byte(rt: &HostRuntime, b: u8) {
-    match print!(rt; "{b:02x}") {
-        Ok(()) => {}
-        Err(_) => {}
+impl fmt::Display for Hex<'_> {
+    fn fmt<W: fmt::Write>(&self, f: &mut fmt::Formatter<W>) -> fmt::Result {
+        for byte in self.0 {
+            write!(f, "{byte:02x}")?;
+        }
+        Ok(())
     }
-}
-
-pub fn hex(rt: &HostRuntime, bytes: &[u8]) {
-    for b in bytes {
-        byte(rt, *b);
-    }
-}
-
-pub fn end(rt: &HostRuntime) {
-    text(rt, b"\n");
 }

@@ -1,78 +1,78 @@
 // The text doors.
-use crate::say;
-use door::strict::Checked;
-use iscc::written::Written;
+use crate::say::Out;
+use std::fmt;
+use std::fmt::Write;
 
-fn put(rt: &HostRuntime, text: &[u8], out: &mut [u8]) {
-    match door::intake::intake(text, out) {
-        Written::Length(n) => say::text(rt, &out[0..n]),
-        Written::Refused(q) => say::refused(rt, q),
+fn put(out: &mut Out<'_>, text: &str) -> fmt::Result {
+    let mut area = [0u8; 73];
+    match door::intake::intake(text.as_bytes(), &mut area) {
+        Ok(n) => out.bytes(&area[0..n]),
+        Err(q) => out.refused(q),
     }
 }
 
-fn intake_and(rt: &HostRuntime, text: &[u8], note: &[u8]) {
-    say::text(rt, b"intake '");
-    say::text(rt, text);
-    say::text(rt, b"': ");
-    let mut out = [0u8; 73];
-    put(rt, text, &mut out);
-    say::text(rt, note);
-    say::end(rt);
+fn intake_and(out: &mut Out<'_>, text: &str, note: &str) -> fmt::Result {
+    write!(out, "intake '{text}': ")?;
+    put(out, text)?;
+    writeln!(out, "{note}")
 }
 
-fn intake(rt: &HostRuntime, text: &[u8]) {
-    intake_and(rt, text, b"");
+fn intake(out: &mut Out<'_>, text: &str) -> fmt::Result {
+    intake_and(out, text, "")
 }
 
-fn strict(rt: &HostRuntime, text: &[u8]) {
-    say::text(rt, b"strict '");
-    say::text(rt, text);
-    say::text(rt, b"': ");
-    match door::strict::strict(text) {
-        Checked::Accepted => say::text(rt, b"accepted"),
-        Checked::Refused(q) => say::refused(rt, q),
+fn strict(out: &mut Out<'_>, text: &str) -> fmt::Result {
+    write!(out, "strict '{text}': ")?;
+    match door::strict::strict(text.as_bytes()) {
+        Ok(()) => write!(out, "accepted")?,
+        Err(q) => out.refused(q)?,
     }
-    say::end(rt);
+    writeln!(out)
 }
 
 // The line case, one unit, and what a list may not hold.
-pub fn labels(rt: &HostRuntime) {
-    intake(rt, b"GAAW2PRCRS5LNVZV-IAAUVACQKXE3V44W");
-    intake(rt, b"IAAUVACQKXE3V44W-GAAW2PRCRS5LNVZV");
-    intake(rt, b"iscc:maagztfqttvizpjr");
-    intake(rt, b"");
-    intake(rt, b"Iscc:Maagztfqttvizpjr");
-    intake(rt, b"GAAW2PRCRS5LNVZV");
-    intake(rt, b"GAAW2PRCRS5LNVZVGAAW2PRCRS5LNVZV");
-    intake(rt, b"GAAW2PRCRS5LNVZV-MAAGZTFQTTVIZPJR");
-    strict(rt, b"ISCC:KUAG2PRCRS5LNVZVJKAFAVOJXLZZM");
-    strict(rt, b"GAAW2PRCRS5LNVZV-IAAUVACQKXE3V44W");
-    strict(rt, b"ISCC:GAAW2PRCRS5LNVZV");
-    strict(rt, b"iscc:maagztfqttvizpjr");
+pub fn labels(out: &mut Out<'_>) -> fmt::Result {
+    for text in [
+        "GAAW2PRCRS5LNVZV-IAAUVACQKXE3V44W",
+        "IAAUVACQKXE3V44W-GAAW2PRCRS5LNVZV",
+        "iscc:maagztfqttvizpjr",
+        "",
+        "Iscc:Maagztfqttvizpjr",
+        "GAAW2PRCRS5LNVZV",
+        "GAAW2PRCRS5LNVZVGAAW2PRCRS5LNVZV",
+        "GAAW2PRCRS5LNVZV-MAAGZTFQTTVIZPJR",
+    ] {
+        intake(out, text)?;
+    }
+    for text in [
+        "ISCC:KUAG2PRCRS5LNVZVJKAFAVOJXLZZM",
+        "GAAW2PRCRS5LNVZV-IAAUVACQKXE3V44W",
+        "ISCC:GAAW2PRCRS5LNVZV",
+        "iscc:maagztfqttvizpjr",
+    ] {
+        strict(out, text)?;
+    }
+    Ok(())
 }
 
-pub fn short(rt: &HostRuntime) {
-    intake(rt, b"ISCC");
-    intake(rt, b"AB");
-    intake(rt, b"A");
-    intake(rt, b"A1");
-    intake(rt, b"AA");
-    intake(rt, b"ISCC:");
-    intake(rt, b"-");
-    intake(rt, b"   ");
+pub fn short(out: &mut Out<'_>) -> fmt::Result {
+    for text in ["ISCC", "AB", "A", "A1", "AA", "ISCC:", "-", "   "] {
+        intake(out, text)?;
+    }
+    Ok(())
 }
 
 // Published by the reference library: the inputs and the example of its iscc_normalize.
-pub fn published(rt: &HostRuntime) {
-    intake(rt, b"MEACB7X7777574L6");
-    intake(rt, b"ISCC:MEACB7X7777574L6");
+pub fn published(out: &mut Out<'_>) -> fmt::Result {
+    intake(out, "MEACB7X7777574L6")?;
+    intake(out, "ISCC:MEACB7X7777574L6")?;
     intake_and(
-        rt,
-        b"fcc010001657fe7cafe9791bb",
-        b" (the library takes base16 behind an f; the specification has base32 only)",
-    );
-    intake(rt, b"iscc:maagztfqttvizpjr");
-    intake(rt, b"Iscc:Maagztfqttvizpjr");
-    intake(rt, b"GAAW2PRCRS5LNVZV-IAAUVACQKXE3V44W");
-    strict(rt, b"ISCC:MEACB7X7777574L6");
+        out,
+        "fcc010001657fe7cafe9791bb",
+        " (the library takes base16 behind an f; the specification has base32 only)",
+    )?;
+    intake(out, "iscc:maagztfqttvizpjr")?;
+    intake(out, "Iscc:Maagztfqttvizpjr")?;
+    intake(out, "GAAW2PRCRS5LNVZV-IAAUVACQKXE3V44W")?;
+    strict(out, "ISCC:MEACB7X7777574L6")
 }

@@ -1,79 +1,64 @@
 // The reader of one unit.
-use crate::say;
-use unit::reader::{Unit, UnitRead};
+use crate::say::{Hex, Out};
+use std::fmt;
+use std::fmt::Write;
+use unit::reader::Unit;
 
-fn number(rt: &HostRuntime, n: usize) {
-    say::number(rt, n as u64);
+fn item(out: &mut Out<'_>, u: Unit) -> fmt::Result {
+    let main_type = u.main_type.number();
+    write!(
+        out,
+        "main type {main_type}, subtype {}, version {}, length {}, body from byte {} to {}",
+        u.subtype, u.version, u.length_number, u.start, u.used
+    )
 }
 
-fn item(rt: &HostRuntime, u: Unit) {
-    say::text(rt, b"main type ");
-    say::number(rt, say::widen(u.main_type.number()));
-    say::text(rt, b", subtype");
-    say::spaced(rt, u.subtype);
-    say::text(rt, b", version");
-    say::spaced(rt, u.version);
-    say::text(rt, b", length");
-    say::spaced(rt, u.length_number);
-    say::text(rt, b", body from byte ");
-    number(rt, u.start);
-    say::text(rt, b" to ");
-    number(rt, u.used);
-    say::end(rt);
-}
-
-fn read(rt: &HostRuntime, bytes: &[u8]) {
+fn read(out: &mut Out<'_>, bytes: &[u8]) -> fmt::Result {
     match unit::reader::read(bytes) {
-        UnitRead::Unit(u) => item(rt, u),
-        UnitRead::Refused(q) => {
-            say::refused(rt, q);
-            say::end(rt);
-        }
+        Ok(u) => item(out, u)?,
+        Err(q) => out.refused(q)?,
     }
-}
-
-fn name(rt: &HostRuntime, first: u8, second: u8) {
-    say::text(rt, b"unit reader ");
-    say::byte(rt, first);
-    say::byte(rt, second);
+    writeln!(out)
 }
 
 // A header of two bytes with nothing behind it.
-fn alone(rt: &HostRuntime, first: u8, second: u8) {
-    name(rt, first, second);
-    say::text(rt, b": ");
-    read(rt, &[first, second]);
+fn alone(out: &mut Out<'_>, header: [u8; 2]) -> fmt::Result {
+    write!(out, "unit reader {}: ", Hex(&header))?;
+    read(out, &header)
 }
 
 // A header of two bytes with 48 zeros behind it.
-fn header(rt: &HostRuntime, first: u8, second: u8) {
-    name(rt, first, second);
-    say::text(rt, b", zeros: ");
+fn header(out: &mut Out<'_>, header: [u8; 2]) -> fmt::Result {
+    write!(out, "unit reader {}, zeros: ", Hex(&header))?;
     let mut bytes = [0u8; 50];
-    bytes[0] = first;
-    bytes[1] = second;
-    read(rt, &bytes);
+    bytes[..2].copy_from_slice(&header);
+    read(out, &bytes)
 }
 
 // A wide composite's header, and subtype 7 with another length.
-pub fn labels(rt: &HostRuntime) {
-    alone(rt, 0x57, 0);
-    header(rt, 0x57, 0);
-    header(rt, 0x57, 1);
+pub fn labels(out: &mut Out<'_>) -> fmt::Result {
+    alone(out, [0x57, 0])?;
+    header(out, [0x57, 0])?;
+    header(out, [0x57, 1])
 }
 
 // Published by the reference library, its encode_length: 32, 64, 96 bits; the sets of a composite by number; 64, 72, 80 bits of an ID.
-pub fn published(rt: &HostRuntime) {
-    header(rt, 0, 0);
-    header(rt, 0, 1);
-    header(rt, 0, 2);
-    header(rt, 0x55, 0);
-    header(rt, 0x50, 1);
-    header(rt, 0x50, 2);
-    header(rt, 0x50, 3);
-    header(rt, 0x56, 4);
-    header(rt, 0x50, 5);
-    header(rt, 0x60, 0);
-    header(rt, 0x60, 1);
-    header(rt, 0x60, 2);
+pub fn published(out: &mut Out<'_>) -> fmt::Result {
+    for bytes in [
+        [0, 0],
+        [0, 1],
+        [0, 2],
+        [0x55, 0],
+        [0x50, 1],
+        [0x50, 2],
+        [0x50, 3],
+        [0x56, 4],
+        [0x50, 5],
+        [0x60, 0],
+        [0x60, 1],
+        [0x60, 2],
+    ] {
+        header(out, bytes)?;
+    }
+    Ok(())
 }

@@ -1,5 +1,10 @@
 -- A piece taken line by line.
+use Rattle.std.specs.Prelude.{Ok, Err}
 use Prim.Native.Nat.{ℕ, suc, ◌+◌, ◌-◌, ◌≤◌, ◌<◌}
+use Rattle.std.proofs.Common.{Option}
+use Rattle.std.specs.List.{AllWithin, HoldsAt}
+use Rattle.std.specs.Option.{MatchOption, unwrap_or}
+use Rattle.std.proofs.lemmas.Iterator.{index_from_first}
 use mathlib.Core.Path.{◌≡◌, refl, sym, ◌∙◌, ap}
 use mathlib.Core.Logic.{⊎_elim}
 use mathlib.Core.Bool.{Bool, true, false, not, cond}
@@ -15,14 +20,20 @@ use Rattle.iscc.specs.Refusals.{area_too_short}
 use Rattle.iscc.specs.Answer.{accept, ◌>>◌, ◌otherwise◌, area_after}
 use Rattle.iscc.specs.Lists.{first_not}
 use Rattle.iscc.specs.Representation.{written_as}
-use Rattle.iscc.specs.declared.written.Written as code
-use Rattle.iscc.specs.declared.written.Written.TheVariants.{Length, Refused}
+use Rattle.iscc.specs.Representation as code
 use Rattle.iscc.proofs.Area.{WrittenFront, nothing_written, length-written, all-written}
 use Rattle.iscc.proofs.Filling.{overwritten, more-written}
 use Rattle.lines.specs.Feeding.{Feeding, not_lf, answer_line, behind, nothing_fed, feeding, fed_by, room_for, fed_as, begun_line, held_for, line_for, finishing}
 use Rattle.lines.specs.declared.feed.Fed.{Fed}
 use Rattle.lines.proofs.Answers.{answer-short}
 use Rattle.lines.proofs.Held.{LineKept, line_same, counted, count-some, begun-none}
+
+-- the first LF
+pub lf-first : (t : List ℕ) (r : Option ℕ)
+    → MatchOption r (AllWithin (λ c. eqb c 10 ≡ false) t 0 (length t)) (λ i. (i < length t) × HoldsAt (λ c. eqb c 10 ≡ true) t i × AllWithin (λ c. eqb c 10 ≡ false) t 0 i)
+    → first_not not_lf t ≡ unwrap_or r (length t)
+unfolding first_not
+lf-first t r h = index_from_first (first_not not_lf) (λ c. eqb c 10 ≡ true) (λ c. eqb c 10 ≡ false) refl (λ x xs e. rw e) (λ x xs e. rw (e, add-one)) t r h
 
 -- what is taken and answered in two steps
 twice : (m n : ℕ) (a b : List ℕ) (f : Feeding) → behind m a (behind n b f) ≡ behind (m + n) (a ++ b) f
@@ -180,7 +191,7 @@ module _ (d piece line : List ℕ) (held : ℕ) (after out : List ℕ) (kept use
           record {
             room = s.room;
             same = s.same;
-            count = count-some line 0 (omega arith) (omega arith);
+            count = count-some line 0 0 (omega arith) (omega arith);
             within = omega (arith, l);
             answers = s.answers ++ q;
             wrote = more-written m q s.wrote (sym f) room (lent_back out e q written m (omega arith) f g);
@@ -238,7 +249,7 @@ module _ (d p : List ℕ) (n : ℕ) (e : n ≡ held_for p) where
       go [] l = absurd (l refl)
       go (c ∷ p) l = refl
 
-  pub finished-none : n ≡ 0 → Finished d p (Length 0) d
+  pub finished-none : n ≡ 0 → Finished d p (Ok 0) d
   unfolding finishing held_for
   finished-none z = go p (sym e ∙ z)
     where
@@ -246,12 +257,12 @@ module _ (d p : List ℕ) (n : ℕ) (e : n ≡ held_for p) where
       some true p z = omega arith
       some false p z = omega arith
 
-      go : (p : List ℕ) → held_for p ≡ 0 → Finished d p (Length 0) d
+      go : (p : List ℕ) → held_for p ≡ 0 → Finished d p (Ok 0) d
       go [] z = (refl, refl)
       go (c ∷ p) z = absurd (some (leb (suc (length p)) 1024) p z)
 
-  pub finished-short : (n ≡ 0 → ⊥) → length d < 74 → Finished d p (Refused area_too_short) d
+  pub finished-short : (n ≡ 0 → ⊥) → length d < 74 → Finished d p (Err area_too_short) d
   finished-short l h = rw (finishing-some l, lt-leb 74 (length d) h) (refl, refl)
 
-  pub finished : (m : ℕ) (a : List ℕ) → (n ≡ 0 → ⊥) → 74 ≤ length d → m ≡ length (answer_line p) → a ≡ area_after (accept (answer_line p)) d → Finished d p (Length m) a
-  finished m a l h f g = rw (finishing-some l, le-leb 74 (length d) h) (ap Length f, g)
+  pub finished : (m : ℕ) (a : List ℕ) → (n ≡ 0 → ⊥) → 74 ≤ length d → m ≡ length (answer_line p) → a ≡ area_after (accept (answer_line p)) d → Finished d p (Ok m) a
+  finished m a l h f g = rw (finishing-some l, le-leb 74 (length d) h) (ap Ok f, g)

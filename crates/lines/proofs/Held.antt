@@ -1,12 +1,11 @@
 -- The line begun, as an area and a count keep it.
-use Prim.Native.Nat.{ℕ, ◌+◌, ◌-◌, ◌≤◌, ◌<◌}
+use Prim.Native.Nat.{ℕ, ◌+◌, ◌-◌, ◌≤◌, ◌<◌, min}
 use mathlib.Core.Path.{◌≡◌, refl, sym, ◌∙◌, ap}
 use mathlib.Core.Bool.{Bool, true, false, cond}
-use mathlib.Core.List.{List, [], ◌∷◌, ◌++◌}
-use native.Mathlib.Numerals.{add-one}
+use mathlib.Core.List.{List, [], ◌∷◌, ◌++◌, append_assoc}
 use native.Mathlib.Omega.{arith}
-use lib.ListN.{length, get_or, take, drop, set, length-append, length-take, length-drop, length-replicate, take-append-drop}
-use lib.Seq.{length-take-le, take_all, take_at, take-append_seam, drop-append_seam, paste, paste-suc}
+use lib.ListN.{length, take, drop, length-append, length-take, length-drop, length-replicate, take-append-drop}
+use lib.Seq.{length-take-le, take_at, take-append_seam, drop-append_seam, drop-drop}
 use lib.Dec.{leb}
 use borrow.Author.Tests.{le-leb, lt-leb, leb-true, leb-false}
 use Rattle.iscc.specs.Refusals.{long_text}
@@ -101,11 +100,8 @@ module _ (line : List ℕ) (held : ℕ) where
   count-short : held ≤ 1024 → length (take held line) ≡ held_for (begun_line line held)
   count-short h = sym (ap held_for (begun-short line held h) ∙ held-short (take held line) (take-most h))
 
-  pub count-all : held ≤ 1024 → length line < held → length line ≡ held_for (begun_line line held)
-  count-all h l = ap length (sym (take_all held line (omega arith))) ∙ count-short h
-
-  pub count-some : held ≤ 1024 → held ≤ length line → held ≡ held_for (begun_line line held)
-  count-some h l = sym (length-take-le held line l) ∙ count-short h
+  pub count-some : (n : ℕ) → held ≤ 1024 → n ≡ min held (length line) → n ≡ held_for (begun_line line held)
+  count-some n h e = e ∙ sym (length-take held line) ∙ count-short h
 
   -- it stands for the same line
   pub record Counted (n : ℕ) : Type 0 where
@@ -136,12 +132,12 @@ module _ (line : List ℕ) (held : ℕ) where
       go true b = short (leb-true held 1024 b)
       go false b = long (leb-false held 1024 b)
 
-  module _ (n : ℕ) (e : n ≡ held_for (begun_line line held)) where
-    pub kept-refused : 1024 < n → answer_line (begun_line line held) ≡ line_answer (refuse long_text) ++ (10 ∷ [])
-    kept-refused h = answer-long _ (rw (begun-long line held ((counted n e).long h)) overlong-long)
+  -- the line itself, as the code lends it
+  pub begun-part : (n : ℕ) → held ≤ 1024 → n ≡ min held (length line) → take (n - 0) line ≡ begun_line line held
+  begun-part n h e = let z : n - 0 ≡ n = omega arith in rw (z, e, ← length-take held line) (take_counted held line ∙ sym (begun-short line held h))
 
-    pub kept-text : n ≤ 1024 → begun_line line held ≡ take (n - 0) line
-    kept-text h = let z : n - 0 ≡ n = omega arith in rw z (sym (counted n e).same ∙ begun-short line n h)
+  pub begun-refused : 1024 < held → answer_line (begun_line line held) ≡ line_answer (refuse long_text) ++ (10 ∷ [])
+  begun-refused h = answer-long _ (rw (begun-long line held h) overlong-long)
 
   -- a line to which nothing is added leaves the area as it was
   pub line_same : line ≡ line_for (begun_line line held) line
@@ -175,31 +171,22 @@ module _ (line : List ℕ) (held : ℕ) (part : List ℕ) (room : 1024 ≤ lengt
   pub add-over : held ≤ 1024 → 1024 - held < length part → LineKept (begun_line line held ++ part) line 1025 line
   add-over h l = kept-long _ line (rw (begun-short line held h, length-append, length-take-le held line (omega arith)) (omega arith))
 
-  pub add-all : (i : ℕ) (after : List ℕ) → held ≤ 1024 → length part ≤ 1024 - held → length part ≤ i → i ≤ length part
-      → after ≡ paste line held part i → LineKept (begun_line line held ++ part) line (held + i) after
-  add-all i after h l a b is =
-      rw (begun-short line held h)
-      (kept-short (take held line ++ part) line (held + i) after (rw (length-append, length-take-le held line (omega arith)) (omega arith)) (omega arith)
-      (is ∙ rw (take_all i part a)))
+  pub add-all : (after : List ℕ) (n k : ℕ) → held ≤ 1024 → length part ≤ 1024 - held → n ≡ held + length part → k ≡ length part
+      → after ≡ take held line ++ (part ++ drop k (drop held line)) → LineKept (begun_line line held ++ part) line n after
+  add-all after n k h l f g is =
+      rw (begun-short line held h, f)
+      (kept-short (take held line ++ part) line (held + length part) after (rw (length-append, length-take-le held line (omega arith)) refl) (omega arith)
+      (is ∙ rw (append_assoc, g, drop-drop (length part) held line)))
 
-pub paste_more : (line part after : List ℕ) (held i : ℕ) → after ≡ paste line held part i → held + i < length line → i < length part
-    → set after (held + i) (get_or part i 0) ≡ paste line held part (i + 1)
-paste_more line part after held i e l k = rw (e, add-one) (paste-suc line held part i 0 l k)
+-- ---- the line begun, copied to an area, and a part behind it
 
--- ---- the line begun, copied to the front of another area, and a part behind it
+shortened-short : (p : List ℕ) → length p ≤ 1024 → shortened p ≡ p
+unfolding shortened
+shortened-short p h = rw (le-leb (length p) 1024 h)
 
-begun-copied : (line z text : List ℕ) (held : ℕ) → held ≤ 1024 → held ≤ length line → text ≡ line_for (begun_line z 0 ++ take (held - 0) line) z → begun_line text held ≡ begun_line line held
-begun-copied line z text held h l e =
-    let k : held - 0 ≡ held = omega arith in
-    let q : begun_line z 0 ++ take (held - 0) line ≡ take held line = rw (begun-none z 0 refl, k) in
-    let m : length (take held line) ≡ held = length-take-le held line l in
-    let t : text ≡ take held line ++ drop held z = e ∙ rw q (line-short (take held line) z (omega arith) ∙ rw m) in
-    begun-short text held h ∙ ap (take held) t ∙ take_at (take held line) (drop held z) held m ∙ sym (begun-short line held h)
-
-pub answer-copied : (line part z text whole : List ℕ) (held n : ℕ) → held ≤ 1024 → held ≤ length line → text ≡ line_for (begun_line z 0 ++ take (held - 0) line) z
-    → n ≡ held_for (begun_line text held ++ part) → whole ≡ line_for (begun_line text held ++ part) text → answer_line (begun_line line held ++ part) ≡ answer_line (begun_line whole n)
-answer-copied line part z text whole held n h l e f g =
-    sym (answer-kept _ _ whole n f g ∙ ap (λ (p : List ℕ). answer_line (p ++ part)) (begun-copied line z text held h l e))
-
-pub begun-nothing : (line part : List ℕ) (held : ℕ) → held ≡ 0 → begun_line line held ++ part ≡ part
-begun-nothing line part held e = ap (λ (p : List ℕ). p ++ part) (begun-none line held e)
+pub answer-copied : (begun part z text whole : List ℕ) (held n : ℕ) → length begun ≤ 1024 → held ≡ held_for (begun_line z 0 ++ begun) → text ≡ line_for (begun_line z 0 ++ begun) z
+    → n ≡ held_for (begun_line text held ++ part) → whole ≡ line_for (begun_line text held ++ part) text → answer_line (begun ++ part) ≡ answer_line (begun_line whole n)
+answer-copied begun part z text whole held n h e f g k =
+    let q : begun_line z 0 ++ begun ≡ begun = rw (begun-none z 0 refl) in
+    let b : begun_line text held ≡ begun = rw (e, f) (begun_kept (begun_line z 0 ++ begun) z) ∙ ap shortened q ∙ shortened-short begun h in
+    sym (answer-kept _ _ whole n g k ∙ ap (λ (p : List ℕ). answer_line (p ++ part)) b)

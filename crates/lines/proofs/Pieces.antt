@@ -1,4 +1,5 @@
 -- However the input is cut, the output is the line program's answer to it.
+use Rattle.std.specs.Prelude.{Ok}
 use Prim.Native.Nat.{ℕ, suc, ◌+◌, ◌*◌, ◌-◌, ◌≤◌, ◌<◌}
 use mathlib.Core.Path.{◌≡◌, refl, sym, ◌∙◌, ap}
 use mathlib.Core.Bool.{Bool, true, false, cond}
@@ -9,8 +10,7 @@ use lib.Seq.{append_snoc, take-length}
 use lib.Dec.{eqb, leb}
 use borrow.Author.Tests.{le-leb, leb-true, leb-false, eqb-true}
 use Rattle.iscc.specs.Representation.{written_as}
-use Rattle.iscc.specs.declared.written.Written.{Written}
-use Rattle.iscc.specs.declared.written.Written.TheVariants.{Length}
+use Rattle.iscc.specs.Representation.{Written}
 use Rattle.iscc.specs.Answer.{Answer, accept, refuse, area_after}
 use Rattle.iscc.specs.Lines.{line_program}
 use Rattle.lines.specs.Feeding.{Feeding, answer_line, behind, nothing_fed, feeding, begun_line, held_for, line_for, shortened, room_for, fed_by, fed_as, last_answer, finishing}
@@ -204,7 +204,7 @@ fed-bounds line after piece out area held r room space l e f g =
     }
 
 -- and a caller of `finish`: what was written lies within the area
-pub written-within : (x : Answer (List ℕ)) (d a : List ℕ) (w : Written) (n : ℕ) → w ≡ written_as x → a ≡ area_after x d → w ≡ Length n → n ≤ length a
+pub written-within : (x : Answer (List ℕ)) (d a : List ℕ) (w : Written) (n : ℕ) → w ≡ written_as x → a ≡ area_after x d → w ≡ Ok n → n ≤ length a
 written-within (accept out) d a w n e f g =
     let k : n ≡ length out = cc in
     let l : length a ≡ length out + length (drop (length out) d) = ap length f ∙ length-append out (drop (length out) d) in

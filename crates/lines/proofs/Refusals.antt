@@ -1,36 +1,97 @@
--- The answer to a line that is refused, written byte by byte.
+-- The answer to a line that is refused: the word, the number's digits and LF.
+use Rattle.iscc.specs.Refusals.{Refusal, refusal_number}
+use Rattle.iscc.specs.declared.refusal.Refusal.TheVariants as declared
 use Prim.Native.Nat.{ℕ, ◌+◌, ◌/◌, ◌%◌, ◌≤◌, ◌<◌}
-use mathlib.Core.Path.{◌≡◌, refl}
+use mathlib.Core.Path.{◌≡◌, refl, ◌∙◌, ap}
 use mathlib.Core.List.{List, [], ◌∷◌, ◌++◌}
 use native.Mathlib.Omega.{arith}
-use lib.ListN.{length, drop, set}
+use native.Mathlib.Decide.{dec_lt}
+use lib.ListN.{length, take, drop, set}
+use lib.Seq.{drop-drop}
 use borrow.Author.Tests.{lt-ltb, le-ltb}
-use Rattle.iscc.specs.Refusals.{Refusal}
+use Rattle.std.specs.Fmt as std
+use Rattle.std.proofs.lemmas.Fmt.{decimal_by_steps}
 use Rattle.iscc.specs.Answer.{accept, refuse, area_after}
 use Rattle.iscc.specs.Lines.{decimal, refused_word, line_answer}
-use Rattle.iscc.proofs.Area.{WrittenFront, one_written, all-written}
+use Rattle.iscc.proofs.Area.{WrittenFront, one_written, length-written, all-written}
+use Rattle.iscc.proofs.Filling.{more-written}
+
+-- every number of refusal is below 100
+small : (q : Refusal) → refusal_number q < 100
+small declared.EmptyText = omega arith
+small declared.LongText = omega arith
+small declared.LongRun = omega arith
+small declared.BadCharacter = omega arith
+small declared.BadCount = omega arith
+small declared.SpareBits = omega arith
+small declared.BadHeader = omega arith
+small declared.NotPermitted = omega arith
+small declared.ShortBody = omega arith
+small declared.NotJoinable = omega arith
+small declared.Not64Bits = omega arith
+small declared.MainTypeTwice = omega arith
+small declared.LacksDataOrInstance = omega arith
+small declared.SubtypesDiffer = omega arith
+small declared.AreaTooShort = omega arith
+small declared.OtherText = omega arith
+small declared.NumberTooLarge = omega arith
+small declared.NoDistance = omega arith
+small declared.BytesLeftOver = omega arith
+small declared.AlreadyOut = omega arith
+small declared.AllOut = omega arith
+small declared.NotOut = omega arith
+small declared.NotRegister = omega arith
+small declared.NotRecord = omega arith
+small declared.NumberGap = omega arith
+small declared.NumbersSpent = omega arith
+small declared.LastNumbersDiffer = omega arith
+small declared.LogTorn = omega arith
+small declared.LoansDiffer = omega arith
+
+-- std's digits of such a number
+digits_are : (n : ℕ) → n < 100 → std.decimal n ≡ decimal n
+unfolding decimal
+digits_are n h = decimal_by_steps (λ m ds. m < 100 → ds ≡ decimal m) one more n (omega (arith, h)) h
+  where
+    one : (m : ℕ) → m < 10 → m < 100 → (48 + m) ∷ [] ≡ decimal m
+    one m l s = rw (lt-ltb m 10 l)
+
+    more : (m : ℕ) (ds : List ℕ) → 10 ≤ m → (m / 10 < 100 → ds ≡ decimal (m / 10)) → m < 100 → ds ++ ((48 + m % 10) ∷ []) ≡ decimal m
+    more m ds l f s =
+        let k : m / 10 < 10 = omega arith in
+        let e : ds ≡ (48 + m / 10) ∷ [] = f (omega arith) ∙ rw (lt-ltb (m / 10) 10 k) in
+        rw (e, le-ltb m 10 l)
+
+two_digits : (n : ℕ) → n < 100 → length (decimal n) ≤ 2
+unfolding decimal
+two_digits n h = elim (dec_lt n 10) [ yes l ↦ rw (lt-ltb n 10 l) (omega arith) | no l ↦ rw (le-ltb n 10 (omega arith)) (omega arith) ]
 
 -- the answer's length and the area, once d was lent
-abbrev pub Refusing : Refusal → List ℕ → ℕ → List ℕ → Type 0
-Refusing q d n a = (n ≡ length (line_answer (refuse q) ++ (10 ∷ []))) × (a ≡ area_after (accept (line_answer (refuse q) ++ (10 ∷ []))) d)
+pub record Refusing (q : Refusal) (d : List ℕ) (n : ℕ) (a : List ℕ) : Type 0 where
+  pub answer : n ≡ length (line_answer (refuse q) ++ (10 ∷ []))
+  pub area : a ≡ area_after (accept (line_answer (refuse q) ++ (10 ∷ []))) d
 
-module _ (q : Refusal) (d area : List ℕ) (room : 11 ≤ length d) (word : area ≡ refused_word ++ drop 8 d) where
-  begin : WrittenFront refused_word d area 8
+pub number_fits : (q : Refusal) (t : List ℕ) → t ≡ std.decimal (refusal_number q) → length t ≤ 2
+number_fits q t e = let s = small q in omega (arith, ap length (e ∙ digits_are (refusal_number q) s), two_digits (refusal_number q) s)
+
+module _ (q : Refusal) (d area : List ℕ) (room : 11 ≤ length d) (word : area ≡ refused_word ++ drop 8 d) (t after : List ℕ) (k : ℕ)
+    (number : t ≡ std.decimal (refusal_number q)) (all : k ≡ length t) (copied : after ≡ take 8 area ++ (t ++ drop k (drop 8 area))) where
+  begun : WrittenFront refused_word d area 8
   unfolding refused_word
-  begin = record { count = refl; room = omega arith; is = word }
+  begun = record { count = refl; room = omega arith; is = word }
 
-  one-digit : q.number < 10 → line_answer (refuse q) ≡ refused_word ++ ((48 + q.number) ∷ [])
-  unfolding refused_word line_answer decimal
-  one-digit l = rw (lt-ltb q.number 10 l)
+  with_number : WrittenFront (refused_word ++ t) d after (8 + length t)
+  with_number = more-written (length t) t begun refl (omega (arith, number_fits q t number)) (copied ∙ rw (all, drop-drop (length t) 8 area))
 
-  two_digits : 10 ≤ q.number → line_answer (refuse q) ≡ refused_word ++ ((48 + q.number / 10) ∷ []) ++ ((48 + q.number % 10) ∷ [])
-  unfolding refused_word line_answer decimal
-  two_digits l = rw (le-ltb q.number 10 l)
+  pub last_fits : 8 + length t < length after
+  last_fits = omega (arith, length-written with_number, number_fits q t number)
 
-  pub refusing-one : q.number < 10 → Refusing q d 10 (set (set area 8 (48 + q.number)) 9 10)
-  refusing-one l =
-      rw (one-digit l) (all-written (one_written 10 (one_written (48 + q.number) begin (omega arith)) (omega arith)))
-
-  pub refusing-two : 10 ≤ q.number → Refusing q d 11 (set (set (set area 8 (48 + q.number / 10)) 9 (48 + q.number % 10)) 10 10)
-  refusing-two l =
-      rw (two_digits l) (all-written (one_written 10 (one_written (48 + q.number % 10) (one_written (48 + q.number / 10) begin (omega arith)) (omega arith)) (omega arith)))
+  pub refusing : Refusing q d (8 + length t + 1) (set after (8 + length t) 10)
+  unfolding line_answer
+  refusing =
+      let w = all-written (one_written 10 with_number (omega (arith, number_fits q t number))) in
+      let e : refused_word ++ t ≡ line_answer (refuse q) = ap (λ (l : List ℕ). refused_word ++ l) (number ∙ digits_are (refusal_number q) (small q)) in
+      record {
+        answer = w.0 ∙ ap (λ (l : List ℕ). length (l ++ (10 ∷ []))) e;
+        area = w.1 ∙ ap (λ (l : List ℕ). area_after (accept (l ++ (10 ∷ []))) d) e;
+      }

@@ -11,7 +11,7 @@ use lib.ListN.{length, take, drop, length-append, length-drop}
 use lib.Seq.{take-add, take_all}
 use lib.Dec.{eqb, leb}
 use borrow.Author.Tests.{lt-ltb, le-ltb, le-leb, leb-true}
-use Rattle.iscc.specs.Refusals.{area_too_short}
+use Rattle.iscc.specs.Refusals.{refusal_number, area_too_short}
 use Rattle.iscc.specs.Answer.{accept}
 use Rattle.iscc.specs.Exactly.{BrokenAt}
 use Rattle.iscc.proofs.Steps.{By, step-once, done}
@@ -111,7 +111,7 @@ stops room p piece =
       | no l ↦ omega (arith, most)
     ]
 
-    broken : (k : ℕ) → BrokenAt (feed_stage room p piece) area_too_short.number k → room_at room p piece k ≡ false
+    broken : (k : ℕ) → BrokenAt (feed_stage room p piece) (refusal_number area_too_short) k → room_at room p piece k ≡ false
     broken k (inl x) = x.1
     broken k (inr x) = absurd x.1
 

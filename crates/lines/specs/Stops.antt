@@ -1,6 +1,6 @@
 -- Given exactly when: how far `feed` gets in a piece, and the one number that `finish` can give.
 use Rattle.std.specs.Prelude.{ℕ, ◌-◌, ◌<◌, ◌≡◌, Bool, true, cond, ◌↔◌, List, [], ◌∷◌, length, take, leb, ltb}
-use Rattle.iscc.specs.Refusals.{area_too_short}
+use Rattle.iscc.specs.Refusals.{refusal_number, area_too_short}
 use Rattle.iscc.specs.Exactly.{Rule, HoldAt, BrokenAt, Exactly, rule, once}
 use Rattle.lines.specs.Feeding.{Feeding, feeding, finishing, begun_after, answers_to}
 
@@ -16,7 +16,7 @@ feed_stage room p piece = rule area_too_short (room_at room p piece)
 pub record Stops (room : ℕ) (p piece : List ℕ) (f : Feeding) : Type 0 where
   pub whole : (f.used ≡ length piece) ↔ ((j : ℕ) → HoldAt (feed_stage room p piece) j)
   pub stopped : (k : ℕ) → k < length piece
-      → (f.used ≡ k) ↔ (((j : ℕ) → j < k → HoldAt (feed_stage room p piece) j) × BrokenAt (feed_stage room p piece) area_too_short.number k)
+      → (f.used ≡ k) ↔ (((j : ℕ) → j < k → HoldAt (feed_stage room p piece) j) × BrokenAt (feed_stage room p piece) (refusal_number area_too_short) k)
   pub begun : f.begun ≡ begun_after p (take f.used piece)
   pub answers : f.answers ≡ answers_to p (take f.used piece)
 

@@ -7,7 +7,6 @@ use crate::begun::LONGEST_LINE;
 use crate::scan::LF;
 use crate::{begun, refused};
 use iscc::refusal::Refusal;
-use iscc::written::Written;
 
 // The room that every answer fits.
 pub const ROOM: usize = 74;
@@ -19,11 +18,11 @@ pub(crate) fn whole(text: &[u8], out: &mut [u8]) -> usize
     ensures area { out.new ≡ area_after (accept (answer_line text.now)) out.old }
 {
     match door::intake::intake(text, out) {
-        Written::Length(n) => {
+        Ok(n) => {
             out[n] = LF;
             n + 1
         }
-        Written::Refused(q) => refused::write(q, out),
+        Err(q) => refused::write(q, out),
     }
 }
 
@@ -33,36 +32,34 @@ pub(crate) fn kept(line: &[u8], held: usize, out: &mut [u8]) -> usize
     ensures answer { result ≡ length (answer_line (begun_line line.now held)) }
     ensures area { out.new ≡ area_after (accept (answer_line (begun_line line.now held))) out.old }
 {
-    let n = begun::count(line, held);
-    if LONGEST_LINE < n {
-        return refused::write(Refusal::LONG_TEXT, out);
-    }
-    whole(&line[0..n], out)
+    let Some(text) = begun::text(line, held) else {
+        return refused::write(Refusal::LongText, out);
+    };
+    whole(text, out)
 }
 
 // Answers the line begun with its last part, both copied together.
-fn copied(line: &[u8], held: usize, part: &[u8], out: &mut [u8]) -> usize
-    requires { (74 ≤ length out.old) × (held ≤ 1024) × (held ≤ length line.now) }
-    ensures answer { result ≡ length (answer_line (begun_line line.now held ++ part.now)) }
-    ensures area { out.new ≡ area_after (accept (answer_line (begun_line line.now held ++ part.now))) out.old }
+fn copied(begun: &[u8], part: &[u8], out: &mut [u8]) -> usize
+    requires room { 74 ≤ length out.old }
+    requires short { length begun.now ≤ 1024 }
+    ensures answer { result ≡ length (answer_line (begun.now ++ part.now)) }
+    ensures area { out.new ≡ area_after (accept (answer_line (begun.now ++ part.now))) out.old }
 {
-    let mut text = [0u8; 1024];
-    begun::add(&mut text, 0, &line[0..held]);
-    let n = begun::add(&mut text, held, part);
-    kept(&text, n, out)
+    let mut text = [0u8; LONGEST_LINE];
+    let held = begun::add(&mut text, 0, begun);
+    let whole = begun::add(&mut text, held, part);
+    kept(&text, whole, out)
 }
 
 // Answers the line begun with its last part. A line without an earlier part is not copied.
 pub(crate) fn joined(line: &[u8], held: usize, part: &[u8], out: &mut [u8]) -> usize
-    requires { (74 ≤ length out.old) × (1024 ≤ length line.now) }
+    requires { 74 ≤ length out.old }
     ensures answer { result ≡ length (answer_line (begun_line line.now held ++ part.now)) }
     ensures area { out.new ≡ area_after (accept (answer_line (begun_line line.now held ++ part.now))) out.old }
 {
-    if held == 0 {
-        return whole(part, out);
+    match begun::text(line, held) {
+        Some(begun) if begun.is_empty() => whole(part, out),
+        Some(begun) => copied(begun, part, out),
+        None => refused::write(Refusal::LongText, out),
     }
-    if LONGEST_LINE < held {
-        return refused::write(Refusal::LONG_TEXT, out);
-    }
-    copied(line, held, part, out)
 }

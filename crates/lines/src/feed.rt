@@ -8,7 +8,6 @@ use crate::answer::ROOM;
 use crate::begun::LONGEST_LINE;
 use crate::{answer, begun, scan};
 use iscc::refusal::Refusal;
-use iscc::written::Written;
 
 // The count of the line begun, the bytes of the piece that were taken, and the bytes of answers that were written.
 #[derive(Clone, Copy)]
@@ -34,6 +33,7 @@ pub fn feed(line: &mut [u8], held: usize, piece: &[u8], out: &mut [u8]) -> Fed
             written: 0,
         };
     }
+    // Two counts and no iterator: both are answered, and the area says when to stop.
     let mut used = 0;
     let mut written = 0;
     while ROOM <= out.len() - written {
@@ -57,15 +57,15 @@ pub fn feed(line: &mut [u8], held: usize, piece: &[u8], out: &mut [u8]) -> Fed
 }
 
 // Answers the last line, if one was begun. Gives 15 where there is one and the area is below 74 bytes.
-pub fn finish(line: &[u8], held: usize, out: &mut [u8]) -> Written
+pub fn finish(line: &[u8], held: usize, out: &mut [u8]) -> Result<usize, Refusal>
     ensures answer { result ≡ written_as (finishing (length out.old) (begun_line line.now held)) }
     ensures area { out.new ≡ area_after (finishing (length out.old) (begun_line line.now held)) out.old }
 {
     if begun::count(line, held) == 0 {
-        return Written::Length(0);
+        return Ok(0);
     }
     if out.len() < ROOM {
-        return Written::Refused(Refusal::AREA_TOO_SHORT);
+        return Err(Refusal::AreaTooShort);
     }
-    Written::Length(answer::kept(line, held, out))
+    Ok(answer::kept(line, held, out))
 }

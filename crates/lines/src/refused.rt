@@ -5,6 +5,7 @@ ghost use Rattle.iscc.specs.Lines.{refused_word, line_answer};
 
 use crate::scan::LF;
 use iscc::refusal::Refusal;
+use itoa::Buffer;
 
 const WORD: [u8; 8] = *b"refused ";
 
@@ -13,28 +14,20 @@ fn put_word(out: &mut [u8])
     requires { 8 ≤ length out.old }
     ensures { out.new ≡ refused_word ++ drop 8 out.old }
 {
-    let mut i = 0;
-    while i < 8 {
-        out[i] = WORD[i];
-        i += 1;
-    }
+    out[..WORD.len()].copy_from_slice(&WORD);
 }
 
 // Writes the word, the number in decimal and LF to the front of the area, and answers how many bytes these are.
 pub(crate) fn write(q: Refusal, out: &mut [u8]) -> usize
-    requires { (q.number < 100) × (11 ≤ length out.old) }
+    requires { 11 ≤ length out.old }
     ensures answer { result ≡ length (line_answer (refuse q) ++ (10 ∷ [])) }
     ensures area { out.new ≡ area_after (accept (line_answer (refuse q) ++ (10 ∷ []))) out.old }
 {
     put_word(out);
-    let n = q.number as u8;
-    if n < 10 {
-        out[8] = b'0' + n;
-        out[9] = LF;
-        return 10;
-    }
-    out[8] = b'0' + n / 10;
-    out[9] = b'0' + n % 10;
-    out[10] = LF;
-    11
+    let mut buffer = Buffer::new();
+    let number = buffer.format(q.number()).as_bytes();
+    let end = WORD.len() + number.len();
+    out[WORD.len()..end].copy_from_slice(number);
+    out[end] = LF;
+    end + 1
 }

@@ -10,12 +10,5 @@ pub fn line_length(piece: &[u8]) -> usize
     ensures within { result ≤ length piece.now }
     ensures found { result ≡ first_not not_lf piece.now }
 {
-    let mut i = 0;
-    while i < piece.len() {
-        if piece[i] == LF {
-            return i;
-        }
-        i += 1;
-    }
-    i
+    piece.iter().position(|&c| c == LF).unwrap_or(piece.len())
 }

@@ -1,4 +1,5 @@
 -- The writer and replay answer as their tests say, and a replay that is stopped tells where that record starts.
+use Rattle.iscc.specs.Refusals.{refusal_number}
 use Prim.Native.Nat.{ℕ, zero, suc, ◌+◌, ◌<◌}
 use mathlib.Core.Path.{◌≡◌, refl, sym, ap}
 use mathlib.Core.Bool.{Bool, true, false, cond, not, ◌&&◌, ◌||◌}
@@ -103,7 +104,7 @@ module _ {S : Type 0} (apply : Field → S → Answer S) (rules : List (RuleOn (
           record {
             index = suc t.index;
             earlier = hold-next t.index t.earlier;
-            broken = broken-moved _ (suc t.index) (record_test apply rs s') t.index (moved t.index) rules q.number t.broken;
+            broken = broken-moved _ (suc t.index) (record_test apply rs s') t.index (moved t.index) rules (refusal_number q) t.broken;
             told = t.told;
             stay = rw a t.stay;
           }
@@ -115,7 +116,7 @@ module _ {S : Type 0} (apply : Field → S → Answer S) (rules : List (RuleOn (
         record {
           index = 0;
           earlier = λ j l. absurd (not-suc-le-zero l);
-          broken = broken-turn (record_test apply (r ∷ rs) s) 0 met (λ m. refl) rules p.number y.0 y.1;
+          broken = broken-turn (record_test apply (r ∷ rs) s) 0 met (λ m. refl) rules (refusal_number p) y.0 y.1;
           told = refl;
           stay = refl;
         }

@@ -1,5 +1,6 @@
 -- The numbers of the calls: those of a text are 1 to 19, 23 is given where the area is no register, the register's own are 20 to 22, and
 -- 26 before them.
+use Rattle.iscc.specs.Refusals.{refusal_number}
 use Prim.Native.Nat.{ℕ, suc, ◌≤◌}
 use mathlib.Core.Path.{◌≡◌, refl, sym, ◌∙◌, ap, subst}
 use mathlib.Core.Logic.{inl, inr}
@@ -25,7 +26,7 @@ use Rattle.loans.proofs.Loan.{read_is}
 
 -- a refusal has a number from n to m
 abbrev pub Within : ℕ → ℕ → Refusal → Type 0
-Within n m q = (n ≤ q.number) × (q.number ≤ m)
+Within n m q = (n ≤ (refusal_number q)) × ((refusal_number q) ≤ m)
 
 within-as : {A : Type 0} (n m : ℕ) (p q : Refusal) → Within n m p → ◌≡◌ {A = Answer A} (refuse p) (refuse q) → Within n m q
 within-as n m p q w e = subst (Within n m) (refuse-inj e) w
@@ -61,7 +62,7 @@ loans-numbers ch ls n q e =
 
 -- of a change that takes a number: 20 to 22, or 26
 abbrev pub Own : Refusal → Type 0
-Own q = Within 20 26 q × (q.number ≡ 23 → ⊥)
+Own q = Within 20 26 q × ((refusal_number q) ≡ 23 → ⊥)
 
 pub own-numbers : (ch : Change) (s : Contents) (q : Refusal) → applied ch s ≡ refuse q → Own q
 unfolding taking_next
@@ -69,7 +70,7 @@ own-numbers ch s q e = go (ltb s.last 4294967295) e
   where
     go : (b : Bool) → ◌≡◌ {A = Answer Contents} (b otherwise numbers_spent >> (changed_loans ch s.loans >>= λ ls. accept (record { loans = ls; last = suc s.last }))) (refuse q) → Own q
     go true d = let w = loans-numbers ch s.loans (suc s.last) q d in ((w.0, omega (arith, w.1)), λ n. omega (arith, n, w.1))
-    go false d = let n : 26 ≡ q.number = ap (λ (r : Refusal). r.number) (refuse-inj d) in ((omega arith, omega arith), λ m. omega (arith, m, n))
+    go false d = let n : 26 ≡ (refusal_number q) = ap refusal_number (refuse-inj d) in ((omega arith, omega arith), λ m. omega (arith, m, n))
 
 pub answer-numbers : (o : Option ℕ) (q : Refusal) → holder_of o ≡ refuse q → Within 20 22 q
 answer-numbers none q e = within-as 20 22 not_out q (omega arith, omega arith) e

@@ -1,4 +1,5 @@
 -- What each verdict of a promotion says, and where it is given; what the work area holds.
+use Rattle.iscc.specs.Refusals.{refusal_number}
 use Prim.Native.Nat.{ℕ}
 use mathlib.Core.Path.{◌≡◌, refl, ◌∙◌, ap, ap₂}
 use mathlib.Core.Logic.{◌⊎◌, inl, inr}
@@ -36,7 +37,7 @@ module _ (log replica work : List ℕ) where
   -- its number; and what it says of the log and the replica
   abbrev pub Means : Verdict → Type 0
   Means granted = May log replica work × (made ≡ held)
-  Means (refused q) = Within 15 27 q × (q.number ≡ last_numbers_differ.number → LastAlone log replica work)
+  Means (refused q) = Within 15 27 q × ((refusal_number q) ≡ refusal_number last_numbers_differ → LastAlone log replica work)
   Means (refused_at q offset) = (Within 20 25 q ⊎ ((q ≡ log_torn) × ((from_empty log).end ≡ torn offset))) × NotRan log replica work q offset
   Means (refused_for q c) = (q ≡ loans_differ) × (Below 256 log → LoansApart log replica work c)
 

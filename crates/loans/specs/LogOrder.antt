@@ -1,4 +1,5 @@
 -- The tests of the log's writer, and of replay at each record, in their order.
+use Rattle.iscc.specs.Refusals.{refusal_number}
 use Rattle.std.specs.Prelude.{ℕ, zero, suc, ◌+◌, ◌<◌, ◌≡◌, Bool, true, not, ◌&&◌, ◌||◌, List, [], ◌∷◌, length, take, eqb, leb, ltb}
 use Rattle.std.proofs.Math.Option.{none}
 use Rattle.iscc.specs.Refusals.{Refusal, area_too_short, already_out, all_out, not_out, not_record, number_gap}
@@ -85,6 +86,6 @@ stop_of (stopped q offset) = refuse q
 pub record StopTold {S : Type 0} (apply : Field → S → Answer S) (rules : List (RuleOn (Meeting S))) (rs : List Record) (s s' : S) (q : Refusal) (offset : ℕ) : Type 0 where
   pub index : ℕ
   pub earlier : (j : ℕ) → j < index → HoldAt (record_stage apply rules rs s) j
-  pub broken : BrokenAt (record_stage apply rules rs s) q.number index
+  pub broken : BrokenAt (record_stage apply rules rs s) (refusal_number q) index
   pub told : offset ≡ offset_at rs index
   pub stay : replay_all apply (take index rs) none s ≡ record { state = s'; end = ended }

@@ -1,4 +1,5 @@
 -- What is promised of the pending issues log, a field for each sentence; the file of this name in proofs/ proves it.
+use Rattle.iscc.specs.Refusals.{refusal_number}
 use Rattle.std.specs.Prelude.{ℕ, ◌≤◌, ◌<◌, ◌≡◌, true, List, [], ◌∷◌, ◌++◌, map, length, take}
 use Rattle.std.proofs.Math.Option.{none}
 use Rattle.iscc.specs.Refusals.{Refusal, not_register}
@@ -67,6 +68,6 @@ pub record PendingLog : Type 1 where
       → write_all (records_made ks area) (record { log = log; position = 0 }) ≡ accept w
       → replay_log (take w.position w.log) area ≡ accept (record { state = state_after (changed_area register) (asked_area register) ks area; end = ended })
   -- the numbers that they give, none of which is 0
-  pub write_number : (n : NumberedChange) (log : List ℕ) (position : ℕ) (q : Refusal) → write_record n log position ≡ refuse q → (1 ≤ q.number) × (q.number ≤ 24)
+  pub write_number : (n : NumberedChange) (log : List ℕ) (position : ℕ) (q : Refusal) → write_record n log position ≡ refuse q → (1 ≤ (refusal_number q)) × ((refusal_number q) ≤ 24)
   pub stop_number : (log area : List ℕ) (q : Refusal) (offset : ℕ) → (replay_from apply_record 0 log (register.contents area)).end ≡ stopped q offset
-      → (20 ≤ q.number) × (q.number ≤ 25)
+      → (20 ≤ (refusal_number q)) × ((refusal_number q) ≤ 25)

@@ -1,5 +1,6 @@
 -- What is promised of the loans register, a field for each sentence; the file of this name in proofs/ proves it. A byte string is a
 -- list with `Below 256`.
+use Rattle.iscc.specs.Refusals.{refusal_number}
 use Rattle.std.specs.Prelude.{ℕ, ◌≤◌, ◌<◌, ◌≡◌, ◌↔◌, true, List, [], length}
 use Rattle.iscc.specs.Refusals.{Refusal, not_out, not_register}
 use Rattle.iscc.specs.Answer.{accept, refuse, Accepted}
@@ -62,9 +63,9 @@ pub record CallTests {S : Type 0} (r : Register S) (own : Change → S → List 
 
 -- a refusal bears a number from 1 to 26, a question's one to 23, and so none is taken for success
 pub record CallNumbers {S : Type 0} (r : Register S) : Type 0 where
-  pub issue_number : (t : List ℕ) (b : ℕ) (area : List ℕ) (q : Refusal) → issued (changed_area r) t b area ≡ refuse q → (1 ≤ q.number) × (q.number ≤ 26)
-  pub return_number : (t area : List ℕ) (q : Refusal) → returned (changed_area r) t area ≡ refuse q → (1 ≤ q.number) × (q.number ≤ 26)
-  pub ask_number : (t area : List ℕ) (q : Refusal) → borrower_of (asked_area r) t area ≡ refuse q → (1 ≤ q.number) × (q.number ≤ 23)
+  pub issue_number : (t : List ℕ) (b : ℕ) (area : List ℕ) (q : Refusal) → issued (changed_area r) t b area ≡ refuse q → (1 ≤ (refusal_number q)) × ((refusal_number q) ≤ 26)
+  pub return_number : (t area : List ℕ) (q : Refusal) → returned (changed_area r) t area ≡ refuse q → (1 ≤ (refusal_number q)) × ((refusal_number q) ≤ 26)
+  pub ask_number : (t area : List ℕ) (q : Refusal) → borrower_of (asked_area r) t area ≡ refuse q → (1 ≤ (refusal_number q)) × ((refusal_number q) ≤ 23)
 
 -- "Room that was given back is used again.", where a number is left to take
 abbrev pub RoomAgain : {S : Type 0} → Register S → (S → ℕ) → Type 0

@@ -1,4 +1,5 @@
 -- What is promised of a promotion, a field for each sentence; the file of this name in proofs/ proves it.
+use Rattle.iscc.specs.Refusals.{refusal_number}
 use Rattle.std.specs.Prelude.{ℕ, ◌≤◌, ◌<◌, ◌≡◌, ◌⊎◌, ◌↔◌, true, false, List, [], ◌∷◌, ◌++◌, length, take, drop}
 use Rattle.iscc.specs.Refusals.{Refusal, not_out, not_register, area_too_short, last_numbers_differ, log_torn, loans_differ}
 use Rattle.iscc.specs.Answer.{accept, refuse, Accepted}
@@ -138,4 +139,4 @@ pub record MayBePromoted : Type 0 where
       → promotion (take w.position w.log) replica work ≡ granted
       → replica ≡ state_after (changed_area register) (asked_area register) ks empty_register
   -- the numbers that it gives
-  pub numbers : (log replica work : List ℕ) (q : Refusal) → verdict_answer (promotion log replica work) ≡ refuse q → (1 ≤ q.number) × (q.number ≤ 37)
+  pub numbers : (log replica work : List ℕ) (q : Refusal) → verdict_answer (promotion log replica work) ≡ refuse q → (1 ≤ (refusal_number q)) × ((refusal_number q) ≤ 37)

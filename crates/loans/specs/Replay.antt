@@ -1,4 +1,5 @@
 -- Replay of a log over any state, and over a register's area: "Records are applied from the left". What a record does is a parameter.
+use Rattle.iscc.specs.Refusals.{refusal_number}
 use Rattle.std.specs.Prelude.{ℕ, List, [], ◌∷◌}
 use Rattle.std.proofs.Math.Option.{Option, none, some}
 use Rattle.iscc.specs.Answer.{Answer, accept, refuse, ◌>>◌, ◌otherwise◌}
@@ -20,7 +21,7 @@ pub record Replayed (S : Type 0) : Type 0 where
 abbrev pub end_number : End → ℕ
 end_number ended = 0
 end_number (torn offset) = 0
-end_number (stopped q offset) = q.number
+end_number (stopped q offset) = (refusal_number q)
 
 abbrev pub end_offset : End → ℕ
 end_offset ended = 0
@@ -63,7 +64,7 @@ area_replayed area (refuse q) = area
 -- the number and the offset of a replay, as the specification's table has them
 abbrev pub replay_number : Answer (Replayed (List ℕ)) → ℕ
 replay_number (accept x) = end_number x.end
-replay_number (refuse q) = q.number
+replay_number (refuse q) = (refusal_number q)
 
 abbrev pub replay_offset : Answer (Replayed (List ℕ)) → ℕ
 replay_offset (accept x) = end_offset x.end

@@ -5,12 +5,12 @@ use mathlib.Core.List.{List, [], ◌∷◌, ◌++◌, append_assoc, append-nil}
 use native.Mathlib.Numerals.{add-one}
 use native.Mathlib.Omega.{arith}
 use native.Mathlib.Nat.{mod-eq_of_lt, lt_of_lt_of_le, pow-le-pow_right}
-use lib.ListN.{length, get_or, take, set, length-append}
+use lib.ListN.{length, get_or, take, set}
 use lib.Pow.{shr-shr}
 use lib.Seq.{take-suc, take-length, length-take-le, set_at}
 use lib.Dec.{lit<}
 use Rattle.iscc.specs.Digits.{Below, digits, value}
-use Rattle.iscc.proofs.Digits.{value-snoc, length_digits, value-digits, value-lt}
+use Rattle.iscc.proofs.Digits.{value-snoc, value-digits, value-lt}
 
 -- the value of the first i bytes, by 32 bits
 pub read_more : (xs : List ℕ) (i v d r : ℕ) → i < length xs → v ≡ value 8 (take i xs) % 2 ^ 32 → d ≡ get_or xs i 0 → d < 256
@@ -54,14 +54,6 @@ one-filled {number} {d} {part} {rest} {i} b f h e =
           ∙ set_at (take (i - 1) d) (get_or d (i - 1) 0) (digits 8 k number) b (i - 1) l ∙ rw (n, p);
       left = rw n (ap (λ (x : ℕ). x / 2 ^ 8) f.left ∙ shr-shr number (8 * k) 8 ∙ ap (λ (x : ℕ). number / 2 ^ x) (omega arith));
     }
-
-pub all-filled : {number : ℕ} {d part : List ℕ} {rest i : ℕ} → FilledFrom number d part rest i → i ≤ 0 → part ≡ digits 8 (length d) number
-all-filled {number} {d} {part} {rest} {i} f h = let z : i ≡ 0 = omega arith in let n : length d - 0 ≡ length d = omega arith in f.is ∙ rw (z, n)
-
-pub length-filled : {number : ℕ} {d part : List ℕ} {rest i : ℕ} → FilledFrom number d part rest i → length part ≡ length d
-length-filled {number} {d} {part} {rest} {i} f =
-    ap length f.is ∙ length-append (take i d) (digits 8 (length d - i) number)
-    ∙ omega (arith, length-take-le i d f.within, length_digits 8 (length d - i) number, f.within)
 
 -- what is written to four bytes reads back, and a part of at most four bytes reads as it stands
 pub four-back : (n : ℕ) → n < 2 ^ 32 → value 8 (digits 8 4 n) % 2 ^ 32 ≡ n

@@ -11,18 +11,18 @@ use lib.Seq.{take_all, drop-cons, drop-drop, get_or-take, get_or-drop}
 use lib.Dec.{eqb}
 use borrow.Author.Tests.{eq-eqb, ne_eqb}
 use Rattle.iscc.specs.Doors.{is_blank, trim_start, keep, trim_end, scheme_length, drop_hyphens, trimmed, behind_scheme, cleaned}
+use Rattle.iscc.specs.Lists.{first_not}
 use Rattle.iscc.proofs.Parts.{drop-take}
-use Rattle.payload.specs.Offsets.{blanks_in, start, span_of, offset_in, offset_of}
-use Rattle.payload.specs.declared.span.Span.{Span}
+use Rattle.payload.specs.Offsets.{start, offset_in, offset_of}
 
 -- ---- the span behind the scheme
 
-trim_start-is : (t : List ℕ) → trim_start t ≡ drop (blanks_in t) t
-unfolding trim_start blanks_in
+trim_start-is : (t : List ℕ) → trim_start t ≡ drop (first_not is_blank t) t
+unfolding trim_start first_not
 trim_start-is [] = refl
 trim_start-is (c ∷ cs) = go (is_blank c) (trim_start-is cs)
   where
-    go : (b : Bool) → trim_start cs ≡ drop (blanks_in cs) cs → cond b (trim_start cs) (c ∷ cs) ≡ drop (cond b (suc (blanks_in cs)) 0) (c ∷ cs)
+    go : (b : Bool) → trim_start cs ≡ drop (first_not is_blank cs) cs → cond b (trim_start cs) (c ∷ cs) ≡ drop (cond b (suc (first_not is_blank cs)) 0) (c ∷ cs)
     go true ih = ih
     go false ih = refl
 
@@ -39,41 +39,41 @@ trim_end-is (c ∷ cs) = go (trim_end cs) (trim_end-is cs)
     go [] e = one (is_blank c)
     go (d ∷ ds) e = ap (λ (l : List ℕ). c ∷ l) e
 
-trimmed-is : (t : List ℕ) → trimmed t ≡ take (length (trimmed t)) (drop (blanks_in t) t)
+trimmed-is : (t : List ℕ) → trimmed t ≡ take (length (trimmed t)) (drop (first_not is_blank t) t)
 unfolding trimmed
 trimmed-is t = trim_end-is (trim_start t) ∙ ap (take (length (trim_end (trim_start t)))) (trim_start-is t)
 
--- what the code finds, one part after the other, is the span
-pub span-found : (t rest head : List ℕ) (b n k : ℕ) → rest ≡ take (length t - b) (drop b t) → head ≡ take (n - 0) rest
-    → b ≡ blanks_in t → n ≡ length (trim_end rest) → k ≡ scheme_length head
-    → (n ≡ length (trimmed t)) × (k ≡ scheme_length (trimmed t))
-unfolding trimmed
-span-found t rest head b n k r h e f g =
-    let d : length (drop b t) ≡ length t - b = length-drop b t in
-    let s : rest ≡ trim_start t = r ∙ take_all (length t - b) (drop b t) (omega arith) ∙ ap (λ (j : ℕ). drop j t) e ∙ sym (trim_start-is t) in
-    let m : n - 0 ≡ length (trim_end rest) = omega arith in
-    let q : head ≡ trim_end rest = h ∙ ap (λ (j : ℕ). take j rest) m ∙ sym (trim_end-is rest) in
-    (f ∙ ap (λ (u : List ℕ). length (trim_end u)) s, g ∙ ap scheme_length (q ∙ ap trim_end s))
+-- what the code finds, one part after the other
+module _ (t rest head : List ℕ) (b n k : ℕ) (r : rest ≡ take (length t - b) (drop b t)) (h : head ≡ take (n - 0) rest)
+    (e : b ≡ first_not is_blank t) (f : n ≡ length (trim_end rest)) (g : k ≡ scheme_length head) where
+  head-is : head ≡ trimmed t
+  unfolding trimmed
+  head-is =
+      let d : length (drop b t) ≡ length t - b = length-drop b t in
+      let s : rest ≡ trim_start t = r ∙ take_all (length t - b) (drop b t) (omega arith) ∙ ap (λ (j : ℕ). drop j t) e ∙ sym (trim_start-is t) in
+      let m : n - 0 ≡ length (trim_end rest) = omega arith in
+      h ∙ ap (λ (j : ℕ). take j rest) m ∙ sym (trim_end-is rest) ∙ ap trim_end s
 
-pub span-is : (t : List ℕ) (s : Span) → s ≡ span_of t → take (s.to - s.from) (drop s.from t) ≡ behind_scheme t
+  pub code-begins : b + k ≡ start t
+  code-begins = let q : k ≡ scheme_length (trimmed t) = g ∙ ap scheme_length head-is in rw (e, q)
+
+  pub code-stands : take (length head - k) (drop k head) ≡ behind_scheme t
+  unfolding behind_scheme
+  code-stands =
+      let q : k ≡ scheme_length (trimmed t) = g ∙ ap scheme_length head-is in
+      take_all (length head - k) (drop k head) (omega (arith, length-drop k head)) ∙ rw (q, head-is)
+
+behind-is : (t : List ℕ) → take (length (trimmed t) - scheme_length (trimmed t)) (drop (start t) t) ≡ behind_scheme t
 unfolding behind_scheme
-span-is t s e =
-    let b : ℕ = blanks_in t in
+behind-is t =
+    let b : ℕ = first_not is_blank t in
     let k : ℕ = scheme_length (trimmed t) in
     let n : ℕ = length (trimmed t) in
-    let c : b + n - (b + k) ≡ n - k = omega arith in
-    rw (e, c) (sym (ap (drop k) (trimmed-is t) ∙ drop-take k n (drop b t) ∙ ap (take (n - k)) (drop-drop k b t)))
+    sym (ap (drop k) (trimmed-is t) ∙ drop-take k n (drop b t) ∙ ap (take (n - k)) (drop-drop k b t))
 
-pub cleaned-is : (t : List ℕ) (s : Span) → s ≡ span_of t → drop_hyphens (take (s.to - s.from) (drop s.from t)) ≡ cleaned t
-unfolding cleaned
-cleaned-is t s e = ap drop_hyphens (span-is t s e)
-
-pub offset-is : (t : List ℕ) (s : Span) (i r : ℕ) → s ≡ span_of t → r ≡ offset_in (take (s.to - s.from) (drop s.from t)) i → s.from + r ≡ offset_of t i
+pub offset-is : (t code : List ℕ) (i from r : ℕ) → from ≡ start t → code ≡ behind_scheme t → r ≡ offset_in code i → from + r ≡ offset_of t i
 unfolding offset_of
-offset-is t s i r e f =
-    let g : r ≡ offset_in (behind_scheme t) i = f ∙ ap (λ (l : List ℕ). offset_in l i) (span-is t s e) in
-    let h : s.from ≡ start t = ap (λ (s : Span). s.from) e in
-    rw (g, h)
+offset-is t code i from r e f g = rw (e, g, f)
 
 -- ---- the offset p of a character that is no hyphen: i, and what is left of it from i on
 
@@ -138,8 +138,7 @@ unfolding cleaned offset_of
 character-of-run t i l =
     let b : List ℕ = behind_scheme t in
     let n : ℕ = length (trimmed t) - scheme_length (trimmed t) in
-    let w : blanks_in t + length (trimmed t) - start t ≡ n = omega arith in
-    let e : b ≡ take n (drop (start t) t) = sym (span-is t (span_of t) refl) ∙ ap (λ (k : ℕ). take k (drop (start t) t)) w in
+    let e : b ≡ take n (drop (start t) t) = sym (behind-is t) in
     let h = character-at b i l in
     let p : ℕ = offset_in b i in
     let m : length b ≡ length (take n (drop (start t) t)) = ap length e in

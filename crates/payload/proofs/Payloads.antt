@@ -1,10 +1,13 @@
 -- The bytes that a typed text holds: the answer from its tests.
+use Rattle.iscc.specs.Detailed.{with_detail}
+use Rattle.std.specs.Prelude.{Ok, Err}
 use Prim.Native.Nat.{ℕ, zero, suc, ◌-◌, ◌*◌, ◌/◌, ◌≤◌, ◌<◌}
 use mathlib.Core.Path.{◌≡◌, refl, sym, ◌∙◌, ap}
 use mathlib.Core.List.{List}
+use mathlib.Core.Bool.{true}
 use native.Mathlib.Omega.{arith}
-use lib.ListN.{length, take, drop, length-drop}
-use lib.Seq.{take_all, length-take-le}
+use lib.ListN.{length, take}
+use lib.Seq.{take_all}
 use borrow.Author.Tests.{lt-ltb, le-ltb, le-leb, lt-leb, leb-true}
 use Rattle.iscc.specs.Refusals.{Refusal, long_text, empty_text, long_run}
 use Rattle.iscc.specs.Answer.{Answer, accept, refuse, ◌>>◌, ◌otherwise◌, into, area_after}
@@ -12,23 +15,19 @@ use Rattle.iscc.specs.Lists.{first_not}
 use Rattle.iscc.specs.Digits.{byte_count}
 use Rattle.iscc.specs.Alphabet.{is_digit, decode}
 use Rattle.iscc.specs.Base32.{base32, read_base32}
-use Rattle.iscc.specs.Doors.{drop_hyphens, cleaned, decode_run, payload}
+use Rattle.iscc.specs.Doors.{behind_scheme, drop_hyphens, cleaned, decode_run, payload}
 use Rattle.iscc.specs.Representation.{written_as}
-use Rattle.iscc.specs.declared.written.Written.{Written}
-use Rattle.iscc.specs.declared.written.Written.TheVariants as written
+use Rattle.iscc.specs.Representation.{Written}
 use lib.Dec.{leb, ltb}
 use Rattle.iscc.proofs.Answer.{passed}
 use Rattle.iscc.proofs.Alphabet.{encode-decode}
 use Rattle.iscc.proofs.Base32.{sound32}
 use Rattle.iscc.proofs.Doors.{run_of}
-use Rattle.payload.specs.Offsets.{span_of, offset_of}
+use Rattle.payload.specs.Offsets.{offset_of}
 use Rattle.payload.specs.Runs.{no_hyphen, Dropped}
 use Rattle.payload.specs.Payloads.{first_bad, bad_offset, payload_detail, payload_answer_as}
-use Rattle.payload.specs.declared.span.Span.{Span}
-use Rattle.payload.specs.declared.reader.PayloadAnswer.{PayloadAnswer}
-use Rattle.payload.specs.declared.reader.PayloadAnswer.TheVariants.{Length, Refused}
+use Rattle.payload.specs.Payloads.{PayloadAnswer}
 use Rattle.payload.proofs.Runs.{Clear, plain-run, front-counted}
-use Rattle.payload.proofs.Offsets.{cleaned-is}
 
 -- ---- the first bad character
 
@@ -50,13 +49,13 @@ module _ (t chars : List ℕ) (b : ℕ) (of : chars ≡ cleaned t) (found : b �
 
 -- ---- how an answer is told
 
-as-accepted : (k : ℕ) (r : Answer (List ℕ)) (n : ℕ) → written.Length n ≡ written_as r → Length n ≡ payload_answer_as k r
-as-accepted k (accept bs) n e = let q : n ≡ length bs = cc in ap Length q
+as-accepted : (k : ℕ) (r : Answer (List ℕ)) (n : ℕ) → Ok n ≡ written_as r → Ok n ≡ payload_answer_as k r
+as-accepted k (accept bs) n e = let q : n ≡ length bs = cc in ap Ok q
 as-accepted k (refuse p) n e = let z : ◌≡◌ {A = ℕ} 0 1 = cc in absurd (omega arith)
 
-as-refused : (k : ℕ) (r : Answer (List ℕ)) (q : Refusal) → written.Refused q ≡ written_as r → Refused q k ≡ payload_answer_as k r
+as-refused : (k : ℕ) (r : Answer (List ℕ)) (q : Refusal) → Err q ≡ written_as r → Err (with_detail k q) ≡ payload_answer_as k r
 as-refused k (accept bs) q e = let z : ◌≡◌ {A = ℕ} 0 1 = cc in absurd (omega arith)
-as-refused k (refuse p) q e = let f : q ≡ p = cc in ap (λ (q : Refusal). Refused q k) f
+as-refused k (refuse p) q e = let f : q ≡ p = cc in ap (λ (q : Refusal). Err (with_detail k q)) f
 
 ne-pos : (n : ℕ) → (n ≡ 0 → ⊥) → 0 < n
 ne-pos zero h = absurd (h refl)
@@ -67,12 +66,12 @@ ne-pos (suc n) h = omega arith
 abbrev pub Answered : List ℕ → List ℕ → PayloadAnswer → List ℕ → Type 0
 Answered t d r e = (r ≡ payload_answer_as (payload_detail t) (into (length d) (payload t))) × (e ≡ area_after (into (length d) (payload t)) d)
 
-refused : (t d : List ℕ) (q : Refusal) → payload t ≡ refuse q → payload_detail t ≡ 0 → Answered t d (Refused q 0) d
+refused : (t d : List ℕ) (q : Refusal) → payload t ≡ refuse q → payload_detail t ≡ 0 → Answered t d (Err (with_detail 0 q)) d
 refused t d q e z = rw (e, z) (refl, refl)
 
 -- ---- 1, 3
 
-over-long : (t d : List ℕ) → length t ≤ 1024 → 80 < length (cleaned t) → Answered t d (Refused long_run 0) d
+over-long : (t d : List ℕ) → length t ≤ 1024 → 80 < length (cleaned t) → Answered t d (Err (with_detail 0 long_run)) d
 unfolding payload decode_run payload_detail
 over-long t d short l =
     let a = le-leb (length t) 1024 short in
@@ -83,14 +82,14 @@ module _ (t chars : List ℕ) (short : length t ≤ 1024) (of : chars ≡ cleane
   counted : length chars ≡ length (cleaned t)
   counted = ap length of
 
-  pub run-empty : (d : List ℕ) → length chars ≡ 0 → Answered t d (Refused empty_text 0) d
+  pub run-empty : (d : List ℕ) → length chars ≡ 0 → Answered t d (Err (with_detail 0 empty_text)) d
   unfolding payload decode_run payload_detail bad_offset
   run-empty d e =
       let a = le-leb (length t) 1024 short in
       let n : length (cleaned t) ≡ 0 = sym counted ∙ e in
       refused t d empty_text (rw (a, n)) (rw (a, n, le-ltb (first_bad t) 0 (omega arith)))
 
-  pub run-over : (d : List ℕ) → 80 < length chars → Answered t d (Refused long_run 0) d
+  pub run-over : (d : List ℕ) → 80 < length chars → Answered t d (Err (with_detail 0 long_run)) d
   run-over d l = let n = counted in over-long t d short (omega arith)
 
   -- ---- 4, 5, 6, 15: as the base32 reader says
@@ -117,29 +116,28 @@ module _ (t chars : List ℕ) (short : length t ≤ 1024) (of : chars ≡ cleane
       answered-as : w ≡ written_as (into (length d) (payload t))
       answered-as = answered ∙ ap written_as read_is
 
-      pub run-accepted : (n : ℕ) → w ≡ written.Length n → Answered t d (Length n) e
+      pub run-accepted : (n : ℕ) → w ≡ Ok n → Answered t d (Ok n) e
       run-accepted n f = (as-accepted (payload_detail t) (into (length d) (payload t)) n (sym f ∙ answered-as), area-after)
 
-      pub run-refused : (q : Refusal) (k : ℕ) → w ≡ written.Refused q → k ≡ bad_offset t → Answered t d (Refused q k) e
-      run-refused q k f g = (rw g (ap (Refused q) (sym pointed) ∙ as-refused (payload_detail t) (into (length d) (payload t)) q (sym f ∙ answered-as)), area-after)
+      pub run-refused : (q : Refusal) (k : ℕ) → w ≡ Err q → k ≡ bad_offset t → Answered t d (Err (with_detail k q)) e
+      run-refused q k f g = (rw g (ap (λ (j : ℕ). Err (with_detail j q)) (sym pointed) ∙ as-refused (payload_detail t) (into (length d) (payload t)) q (sym f ∙ answered-as)), area-after)
 
 -- ---- what stands behind the scheme: without hyphens it is the run, and with them their dropping is
 
-module _ (t : List ℕ) (s : Span) (e : s ≡ span_of t) (f : ℕ) (k : Clear (take (s.to - s.from) (drop s.from t)) f) where
-  abbrev typed : List ℕ
-  typed = take (s.to - s.from) (drop s.from t)
+pub code-dropped : (t code : List ℕ) → code ≡ behind_scheme t → drop_hyphens code ≡ cleaned t
+unfolding cleaned
+code-dropped t code e = ap drop_hyphens e
 
-  pub plain-cleaned : f ≡ s.to - s.from → s.from ≤ s.to → s.to ≤ length t → typed ≡ cleaned t
-  plain-cleaned q g h =
-      let l : length typed ≡ f = length-take-le (s.to - s.from) (drop s.from t) (omega (arith, length-drop s.from t)) ∙ sym q in
-      let a : take f typed ≡ typed = take_all f typed (omega arith) in
-      sym (plain-run typed (ap no_hyphen (sym a) ∙ k.none)) ∙ cleaned-is t s e
+pub plain-cleaned : (t code : List ℕ) (f : ℕ) → code ≡ behind_scheme t → no_hyphen (take f code) ≡ true → f ≡ length code → code ≡ cleaned t
+plain-cleaned t code f e k q =
+    let a : take f code ≡ code = take_all f code (omega arith) in
+    sym (plain-run code (ap no_hyphen (sym a) ∙ k)) ∙ code-dropped t code e
 
 module _ (t typed : List ℕ) (short : length t ≤ 1024) (passed : drop_hyphens typed ≡ cleaned t) where
-  pub front-over : (d : List ℕ) (f : ℕ) → Clear typed f → 80 < f → Answered t d (Refused long_run 0) d
+  pub front-over : (d : List ℕ) (f : ℕ) → Clear typed f → 80 < f → Answered t d (Err (with_detail 0 long_run)) d
   front-over d f k l = over-long t d short (omega (arith, front-counted typed f k, ap length passed))
 
-  pub hyphened-over : (d area : List ℕ) (n : ℕ) → Dropped typed area n → 80 < n → Answered t d (Refused long_run 0) d
+  pub hyphened-over : (d area : List ℕ) (n : ℕ) → Dropped typed area n → 80 < n → Answered t d (Err (with_detail 0 long_run)) d
   hyphened-over d area n k l = over-long t d short (omega (arith, k.counted, ap length passed))
 
   pub characters : (area : List ℕ) (n : ℕ) → Dropped typed area n → n ≤ length area → take (n - 0) area ≡ cleaned t
@@ -170,5 +168,5 @@ pub payload-long : (t : List ℕ) → 1024 < length t → (payload t ≡ refuse 
 unfolding payload payload_detail
 payload-long t l = let b = lt-leb (length t) 1024 l in (rw b, rw b)
 
-pub text-long : (t d : List ℕ) → 1024 < length t → Answered t d (Refused long_text 0) d
+pub text-long : (t d : List ℕ) → 1024 < length t → Answered t d (Err (with_detail 0 long_text)) d
 text-long t d l = let h = payload-long t l in refused t d long_text h.0 h.1

@@ -2,14 +2,12 @@
 use Prim.Native.Nat.{ℕ, suc, ◌+◌, ◌-◌, ◌≤◌, ◌<◌}
 use mathlib.Core.Path.{◌≡◌, refl, sym, ◌∙◌, ap, ap₂, subst}
 use mathlib.Core.Bool.{Bool, true, false, cond, not, ◌&&◌}
-use mathlib.Core.List.{List, [], ◌∷◌, ◌++◌, map, append-nil}
+use mathlib.Core.List.{List, [], ◌∷◌, ◌++◌, append-nil}
 use native.Mathlib.Omega.{arith}
 use native.Mathlib.Numerals.{add-one}
 use lib.ListN.{length, get_or, take, set, length-append, length-set, length-drop, drop, take-append-drop, drop_of_length-le}
-use lib.Seq.{take_all, take-length, take-add, take_at, drop_at, take-set-le, take-suc-set, length-take-le}
-use lib.Dec.{eqb, ltb}
-use borrow.Author.Tests.{eqb-true, eqb-false}
-use Rattle.iscc.specs.Digits.{all_below}
+use lib.Seq.{drop-drop, take_all, take-length, take-add, take_at, drop_at, take-suc, take-suc-set, length-take-le}
+use lib.Dec.{eqb}
 use Rattle.iscc.specs.Doors.{drop_hyphens}
 use Rattle.iscc.proofs.Text.{drop_hyphens-skip, drop_hyphens-keep}
 use Rattle.iscc.proofs.Parts.{rest-is}
@@ -67,44 +65,12 @@ module _ (t d area area' : List ℕ) (c count count' i : ℕ) (l : i < length t)
     dropped-over h w =
         record { within = omega arith; fewer = omega (arith, k.fewer); counted = one-counted; stored = λ r. absurd (omega (arith, ap length w)); same = ap length w ∙ k.same }
 
--- stored, and counted by what `kept` tells
-pub dropped-next : (t d area : List ℕ) (c m count i : ℕ) → i < length t → c ≡ get_or t i 0 → DroppedUpTo t d area count i → m ≡ cond (eqb c 45) 0 1 → count < length area
-    → DroppedUpTo t d (set area count c) (count + m) (i + 1)
-dropped-next t d area c m count i l e k f h = go (eqb c 45) refl
-  where
-    go : (b : Bool) → eqb c 45 ≡ b → DroppedUpTo t d (set area count c) (count + m) (i + 1)
-    go true q =
-        let z : m ≡ 0 = f ∙ ap (λ (b : Bool). cond b 0 1) q in
-        dropped-hyphen t d area (set area count c) c count (count + m) i l e k (eqb-true c 45 q) (omega arith) (length-set area count c) (take-set-le count area count c (omega arith))
-    go false q =
-        let z : m ≡ 1 = f ∙ ap (λ (b : Bool). cond b 0 1) q in
-        dropped-stored t d area (set area count c) c count (count + m) i l e k (eqb-false c 45 q) (omega arith) h refl
-
 pub dropped-all : {t d area : List ℕ} {count i : ℕ} → DroppedUpTo t d area count i → length t ≤ i → Dropped t area count
 dropped-all {t} {d} {area} {count} {i} k l =
     let a : take i t ≡ t = take_all i t l in
     record { counted = k.counted ∙ ap (λ (u : List ℕ). length (drop_hyphens u)) a; stored = λ h. k.stored h ∙ ap drop_hyphens a }
 
 -- ---- a text without hyphens is its own run
-
-pub none-marked : (t : List ℕ) → all_below 1 (map (λ c. cond (eqb c 45) 1 0) t) ≡ no_hyphen t
-unfolding all_below no_hyphen
-none-marked [] = refl
-none-marked (c ∷ t) = go (eqb c 45) (none-marked t)
-  where
-    go : (b : Bool) → all_below 1 (map (λ c. cond (eqb c 45) 1 0) t) ≡ no_hyphen t
-        → (ltb (cond b 1 0) 1 && all_below 1 (map (λ c. cond (eqb c 45) 1 0) t)) ≡ (not b && no_hyphen t)
-    go true ih = refl
-    go false ih = ih
-
-pub plain-run : (t : List ℕ) → no_hyphen t ≡ true → drop_hyphens t ≡ t
-unfolding drop_hyphens no_hyphen
-plain-run [] e = refl
-plain-run (c ∷ t) e = go (eqb c 45) e (plain-run t)
-  where
-    go : (b : Bool) → (not b && no_hyphen t) ≡ true → (no_hyphen t ≡ true → drop_hyphens t ≡ t) → cond b (drop_hyphens t) (c ∷ drop_hyphens t) ≡ c ∷ t
-    go true f ih = let z : ◌≡◌ {A = ℕ} 0 1 = cc in absurd (omega arith)
-    go false f ih = ap (◌∷◌ c) (ih f)
 
 none-append : (a b : List ℕ) → no_hyphen (a ++ b) ≡ (no_hyphen a && no_hyphen b)
 unfolding no_hyphen
@@ -114,6 +80,25 @@ none-append (c ∷ a) b = go (not (eqb c 45)) (none-append a b)
     go : (x : Bool) → no_hyphen (a ++ b) ≡ (no_hyphen a && no_hyphen b) → (x && no_hyphen (a ++ b)) ≡ ((x && no_hyphen a) && no_hyphen b)
     go true ih = ih
     go false ih = refl
+
+-- one character more
+pub none-more : (t : List ℕ) (i : ℕ) (r : Bool) → i < length t → r ≡ no_hyphen (take i t) → (r && not (eqb (get_or t i 0) 45)) ≡ no_hyphen (take (i + 1) t)
+unfolding no_hyphen
+none-more t i r l e =
+    rw (e, add-one, take-suc t i 0, none-append (take i t) (get_or t i 0 ∷ [])) (ap (λ (b : Bool). no_hyphen (take i t) && b) (go (not (eqb (get_or t i 0) 45))))
+  where
+    go : (b : Bool) → b ≡ (b && true)
+    go true = refl
+    go false = refl
+
+pub plain-run : (t : List ℕ) → no_hyphen t ≡ true → drop_hyphens t ≡ t
+unfolding drop_hyphens no_hyphen
+plain-run [] e = refl
+plain-run (c ∷ t) e = go (eqb c 45) e (plain-run t)
+  where
+    go : (b : Bool) → (not b && no_hyphen t) ≡ true → (no_hyphen t ≡ true → drop_hyphens t ≡ t) → cond b (drop_hyphens t) (c ∷ drop_hyphens t) ≡ c ∷ t
+    go true f ih = let z : ◌≡◌ {A = ℕ} 0 1 = cc in absurd (omega arith)
+    go false f ih = ap (◌∷◌ c) (ih f)
 
 -- none of the first i characters is a hyphen
 pub record Clear (t : List ℕ) (i : ℕ) : Type 0 where
@@ -127,22 +112,24 @@ clear_none t = record { within = omega arith; none = refl }
 both : (a b : Bool) → a ≡ true → b ≡ true → (a && b) ≡ true
 both a b e f = rw (e, f)
 
-module _ (t : List ℕ) (i n : ℕ) (b : Bool) (k : Clear t i) (found : b ≡ no_hyphen (take (i + n - i) (drop i t))) where
-  pub clear_next : n ≤ length t - i → b ≡ true → Clear t (i + n)
-  clear_next l e =
-      let m : i + n - i ≡ n = omega arith in
-      let f : no_hyphen (take n (drop i t)) ≡ true = ap (λ (j : ℕ). no_hyphen (take j (drop i t))) (sym m) ∙ sym found ∙ e in
-      record {
-        within = omega (arith, k.within);
-        none = ap no_hyphen (take-add i n t) ∙ none-append (take i t) (take n (drop i t)) ∙ both (no_hyphen (take i t)) (no_hyphen (take n (drop i t))) k.none f;
-      }
+-- a part more, as the code finds it in what is left
+pub clear_more : (t rest part : List ℕ) (k n : ℕ) (b : Bool) → length rest ≤ length t → rest ≡ drop (length t - length rest) t → Clear t (length t - length rest) → k ≤ length rest
+    → part ≡ take k rest → b ≡ no_hyphen part → b ≡ true → n + k ≡ length rest → Clear t (length t - n)
+clear_more t rest part k n b within left c l p f e m =
+    let i : ℕ = length t - length rest in
+    let s : length t - n ≡ i + k = omega arith in
+    let q : take k (drop i t) ≡ part = ap (take k) (sym left) ∙ sym p in
+    rw s
+    (record {
+      within = omega arith;
+      none = ap no_hyphen (take-add i k t) ∙ none-append (take i t) (take k (drop i t)) ∙ both (no_hyphen (take i t)) (no_hyphen (take k (drop i t))) c.none (ap no_hyphen q ∙ sym f ∙ e);
+    })
 
-pub clear-all : (t : List ℕ) (i : ℕ) (b : Bool) → Clear t i → b ≡ no_hyphen (take (length t - i) (drop i t)) → b ≡ true → Clear t (length t)
-clear-all t i b k f e =
-    let n : ℕ = length t - i in
-    let m : i + n ≡ length t = omega (arith, k.within) in
-    let j : i + n - i ≡ n = omega arith in
-    rw m at (clear_next t i n b k (f ∙ ap (λ (x : ℕ). no_hyphen (take x (drop i t))) (sym j)) (omega arith) e)
+pub left-more : (t rest behind : List ℕ) (k : ℕ) → length rest ≤ length t → rest ≡ drop (length t - length rest) t → k ≤ length rest → behind ≡ drop k rest → length behind + k ≡ length rest
+    → behind ≡ drop (length t - length behind) t
+left-more t rest behind k within left l e m =
+    let s : length t - length behind ≡ length t - length rest + k = omega arith in
+    e ∙ ap (drop k) left ∙ rw (s, drop-drop k (length t - length rest) t)
 
 -- ---- characters in front that are no hyphens, and the run of the rest behind them
 

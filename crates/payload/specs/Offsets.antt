@@ -1,22 +1,13 @@
 -- Where the characters of the run stand in the typed text.
-use Rattle.std.specs.Prelude.{ℕ, zero, suc, ◌+◌, cond, List, [], ◌∷◌, length, eqb}
+use Rattle.std.specs.Prelude.{ℕ, zero, suc, ◌+◌, cond, List, [], ◌∷◌, eqb}
+use Rattle.iscc.specs.Lists.{first_not}
 use Rattle.iscc.specs.Doors.{is_blank, scheme_length, trimmed, behind_scheme}
-use Rattle.payload.specs.declared.span.Span.{Span}
 
--- how many blanks stand at the start
-unfoldable pub blanks_in : List ℕ → ℕ
-blanks_in [] = 0
-blanks_in (c ∷ cs) = cond (is_blank c) (suc (blanks_in cs)) 0
-
--- the offset of the first character behind the scheme
+-- the offset of the first character behind the scheme: as many blanks stand at the start, and then it
 abbrev pub start : List ℕ → ℕ
-start t = blanks_in t + scheme_length (trimmed t)
+start t = first_not is_blank t + scheme_length (trimmed t)
 
--- the characters behind the scheme, hyphens too
-abbrev pub span_of : List ℕ → Span
-span_of t = record { from = start t; to = blanks_in t + length (trimmed t) }
-
--- the offset among them of character i of those that are no hyphen; of one that is not there, the end
+-- the offset among the characters behind the scheme of character i of those that are no hyphen; of one that is not there, the end
 unfoldable pub offset_in : List ℕ → ℕ → ℕ
 offset_in [] i = 0
 offset_in (c ∷ cs) zero = cond (eqb c 45) (suc (offset_in cs zero)) 0

@@ -1,49 +1,31 @@
 // Blanks, dropped at both ends of a text only.
 ghost use Rattle.std.specs.Prelude.{◌≡◌, ◌≤◌, length};
 ghost use Rattle.iscc.specs.Doors.{is_blank, trim_end};
-ghost use Rattle.payload.specs.Offsets.{blanks_in};
+ghost use Rattle.iscc.specs.Lists.{first_not};
 
-// Space, tab, CR and LF.
-pub fn is_blank(c: u8) -> bool
-    ensures { result ≡ is_blank c }
-{
-    if c == b' ' {
-        return true;
-    }
-    if c == b'\t' {
-        return true;
-    }
-    if c == b'\r' {
-        return true;
-    }
-    c == b'\n'
-}
+use octets::blank::is_blank;
 
 // How many blanks stand at the start.
 pub fn blanks(text: &[u8]) -> usize
-    ensures { (result ≡ blanks_in text.now) × (result ≤ length text.now) }
+    ensures value { result ≡ first_not is_blank text.now }
+    ensures within { result ≤ length text.now }
 {
-    let mut i = 0;
-    while i < text.len() {
-        if !is_blank(text[i]) {
-            return i;
-        }
-        i += 1;
-    }
-    i
+    text.iter()
+        .position(|&c| !is_blank(c))
+        .unwrap_or(text.len())
 }
 
 // How long the text is without the blanks at its end.
 pub fn trimmed_length(text: &[u8]) -> usize
-    ensures { (result ≡ length (trim_end text.now)) × (result ≤ length text.now) }
+    ensures value { result ≡ length (trim_end text.now) }
+    ensures within { result ≤ length text.now }
 {
-    let mut i = text.len();
-    while 0 < i {
-        let k = i - 1;
-        if !is_blank(text[k]) {
-            return i;
+    let mut rest = text;
+    while let [front @ .., last] = rest {
+        if !is_blank(*last) {
+            break;
         }
-        i = k;
+        rest = front;
     }
-    i
+    rest.len()
 }

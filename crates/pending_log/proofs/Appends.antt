@@ -1,4 +1,5 @@
 -- Bytes appended to a log, and a record made of its parts.
+use Rattle.std.specs.Prelude.{Result, Ok, Err}
 use Prim.Native.Nat.{ℕ, ◌+◌, ◌-◌, ◌≤◌, ◌<◌}
 use mathlib.Core.Path.{◌≡◌, refl, sym, ◌∙◌, ap, subst}
 use mathlib.Core.Bool.{Bool, true, false, not, ◌&&◌}
@@ -8,8 +9,8 @@ use lib.ListN.{length, take, drop, length-append}
 use lib.Seq.{take_at, drop_at, drop-drop}
 use lib.Dec.{eqb}
 use borrow.Author.Tests.{le-leb, lt-leb, eq-eqb, ne_eqb}
-use Rattle.iscc.specs.Refusals.{area_too_short, not_record}
-use Rattle.iscc.specs.Answer.{Answer, accept, refuse}
+use Rattle.iscc.specs.Refusals.{Refusal, area_too_short, not_record}
+use Rattle.iscc.specs.Answer.{Answer, accept}
 use Rattle.iscc.specs.Digits.{digits, Below}
 use Rattle.iscc.proofs.Booleans.{both_true}
 use Rattle.iscc.proofs.Digits.{length_digits}
@@ -21,13 +22,12 @@ use Rattle.loans.specs.Writer.{Written, appended, written_after, Appended}
 use Rattle.loans.specs.PendingLog.{write_record}
 use Rattle.loans.proofs.Loan.{is_code}
 use Rattle.loans.proofs.Replay.{append-writes}
-use Rattle.pending_log.specs.declared.append.Appended as code
 use Rattle.pending_log.specs.AppendedRecord.{appended_record}
 use Rattle.pending_log.specs.Representation.{appended_as}
 
 -- the code's answer r, and the log l that it leaves, are those of an answer a
-abbrev pub Tells : List ℕ → ℕ → Answer Written → code.Appended → List ℕ → Type 0
-Tells log position a r l = (r ≡ appended_as position a) × (l ≡ (written_after log position a).log)
+abbrev pub Tells : List ℕ → ℕ → Answer Written → Result ℕ Refusal → List ℕ → Type 0
+Tells log position a r l = (r ≡ appended_as a) × (l ≡ (written_after log position a).log)
 
 -- ---- bytes at a position
 
@@ -58,7 +58,7 @@ module _ (bs log : List ℕ) (position : ℕ) (h : position + length bs ≤ leng
   put_next cs = next cs (pasted position bs log) written.front written.rest
 
 -- what was put at an offset: the offset behind it, and the log
-abbrev Put : ℕ → List ℕ → List ℕ → ℕ → List ℕ → Type 0
+abbrev pub Put : ℕ → List ℕ → List ℕ → ℕ → List ℕ → Type 0
 Put offset bs log n l = (n ≡ offset + length bs) × (l ≡ pasted offset bs log)
 
 module _ (hs fs cs log : List ℕ) (position : ℕ) where
@@ -68,15 +68,14 @@ module _ (hs fs cs log : List ℕ) (position : ℕ) where
   size : length whole ≡ length hs + length fs + length cs
   size = omega (arith, length-append (hs ++ fs) cs, length-append hs fs)
 
-  pub no_room : length log < position + (length hs + length fs + length cs) → (r : code.Appended)
-      → r ≡ appended_as position (refuse area_too_short) → Tells log position (appended whole log position) r log
+  no_room : length log - position < length hs + length fs + length cs → Tells log position (appended whole log position) (Err area_too_short) log
   unfolding appended
-  no_room h r e = rw (lt-leb (position + length whole) (length log) (omega (arith, h, size))) (e, refl)
+  no_room h = rw (lt-leb (position + length whole) (length log) (omega (arith, h, size))) (refl, refl)
 
-  pub all-put : position ≤ length log → length hs + length fs + length cs ≤ length log - position → (n₁ n₂ n₃ : ℕ) (l₁ l₂ l₃ : List ℕ)
+  all-put : position + (length hs + length fs + length cs) ≤ length log → (n₁ n₂ n₃ : ℕ) (l₁ l₂ l₃ : List ℕ)
       → Put position hs log n₁ l₁ → Put n₁ fs l₁ n₂ l₂ → Put n₂ cs l₂ n₃ l₃
-      → Tells log position (appended whole log position) (record { number = 0; position = n₃ }) l₃
-  all-put h k n₁ n₂ n₃ l₁ l₂ l₃ p q r =
+      → Tells log position (appended whole log position) (Ok n₃) l₃
+  all-put h n₁ n₂ n₃ l₁ l₂ l₃ p q r =
       let n : n₂ ≡ position + length (hs ++ fs) = omega (arith, p.0, q.0, length-append hs fs) in
       let m : n₃ ≡ position + length whole = omega (arith, p.0, q.0, r.0, size) in
       let e : l₂ ≡ pasted position (hs ++ fs) log =
@@ -84,7 +83,7 @@ module _ (hs fs cs log : List ℕ) (position : ℕ) where
       let w : l₃ ≡ pasted position whole log =
       r.1 ∙ ap (λ (i : ℕ). pasted i cs l₂) n ∙ ap (pasted (position + length (hs ++ fs)) cs) e
       ∙ put_next (hs ++ fs) log position (omega (arith, length-append hs fs)) cs in
-      rw (room whole log position (omega (arith, size))) (ap (λ (i : ℕ). record { number = 0; position = i }) m, w)
+      rw (room whole log position (omega (arith, size))) (ap Ok m, w)
 
 -- ---- the tests of a record
 
@@ -106,20 +105,36 @@ number-some c n h r e = rw (ne_eqb n 0 h) (go (one_code c) e)
 pub code_fits : (c : List ℕ) (n : ℕ) → Below 256 c → (x : Bool) → x ≡ one_code c && not (eqb n 0) → x ≡ true → length c ≤ 42
 code_fits c n k x e t = (is_code c k (both_true (one_code c) (not (eqb n 0)) (sym e ∙ t)).0).most
 
-module _ (tag n : ℕ) (front c log : List ℕ) (position : ℕ) (x : Bool) (e : x ≡ one_code c && not (eqb n 0)) (r : code.Appended) where
-  pub no_record : x ≡ false → r ≡ appended_as position (refuse not_record) → Tells log position (appended_record tag n front c log position) r log
+module _ (tag n : ℕ) (front c log : List ℕ) (position : ℕ) (x : Bool) (e : x ≡ one_code c && not (eqb n 0)) where
+  pub no_record : x ≡ false → Tells log position (appended_record tag n front c log position) (Err not_record) log
   unfolding appended_record
-  no_record t p = rw (sym e ∙ t) (p, refl)
+  no_record t = rw (sym e ∙ t) (refl, refl)
 
-  pub record-told : x ≡ true → (hs l : List ℕ) → hs ≡ tag ∷ (digits 8 2 (4 + length front + length c) ++ digits 8 4 n)
-      → Tells log position (appended (hs ++ front ++ c) log position) r l → Tells log position (appended_record tag n front c log position) r l
+  abbrev head : List ℕ
+  head = tag ∷ (digits 8 2 (4 + length front + length c) ++ digits 8 4 n)
+
+  head-size : length head ≡ 7
+  head-size = omega (arith, length-append (digits 8 2 (4 + length front + length c)) (digits 8 4 n), length_digits 8 2 (4 + length front + length c), length_digits 8 4 n)
+
+  record-told : x ≡ true → (r : Result ℕ Refusal) (l : List ℕ) → Tells log position (appended (head ++ front ++ c) log position) r l
+      → Tells log position (appended_record tag n front c log position) r l
   unfolding appended_record field_bytes
-  record-told t hs l p q =
+  record-told t r l q =
       let m : length (digits 8 4 n ++ (front ++ c)) ≡ 4 + length front + length c =
       omega (arith, length-append (digits 8 4 n) (front ++ c), length-append front c, length_digits 8 4 n) in
-      let f : tag ∷ (digits 8 2 (length (digits 8 4 n ++ (front ++ c))) ++ (digits 8 4 n ++ (front ++ c))) ≡ hs ++ front ++ c =
-      rw (m, p) (simp append_assoc) in
+      let f : tag ∷ (digits 8 2 (length (digits 8 4 n ++ (front ++ c))) ++ (digits 8 4 n ++ (front ++ c))) ≡ head ++ front ++ c =
+      rw m (simp append_assoc) in
       rw (sym e ∙ t, f) q
+
+  module _ (t : x ≡ true) (room : ℕ) (k : room ≡ length log - position) where
+    pub room-lacks : room < 7 + length front + length c → Tells log position (appended_record tag n front c log position) (Err area_too_short) log
+    room-lacks h = record-told t (Err area_too_short) log (no_room head front c log position (omega (arith, h, k, head-size)))
+
+    pub record-put : 7 + length front + length c ≤ room → (hs : List ℕ) → hs ≡ head → (n₁ n₂ n₃ : ℕ) (l₁ l₂ l₃ : List ℕ)
+        → Put position hs log n₁ l₁ → Put n₁ front l₁ n₂ l₂ → Put n₂ c l₂ n₃ l₃ → Tells log position (appended_record tag n front c log position) (Ok n₃) l₃
+    record-put h hs w n₁ n₂ n₃ l₁ l₂ l₃ p q r =
+        let p' = rw w at p in
+        record-told t (Ok n₃) l₃ (all-put head front c log position (omega (arith, h, k, head-size)) n₁ n₂ n₃ l₁ l₂ l₃ p' q r)
 
 -- ---- the head: two bytes, and four behind them
 
@@ -130,9 +145,6 @@ module _ (tag m n : ℕ) (d e : List ℕ) (pd : d ≡ digits 8 2 m) where
   two : length d ≡ 2
   two = ap length pd ∙ length_digits 8 2 m
 
-  pub head-room : 7 ≤ length (tag ∷ (d ++ zeros))
-  head-room = omega (arith, two, length-append d zeros)
-
   pub head-made : e ≡ digits 8 (length (take 4 (drop 2 (d ++ zeros)))) n
       → tag ∷ (take 2 (d ++ zeros) ++ (e ++ drop 4 (drop 2 (d ++ zeros)))) ≡ tag ∷ (digits 8 2 m ++ digits 8 4 n)
   head-made pe =
@@ -142,7 +154,7 @@ module _ (tag m n : ℕ) (d e : List ℕ) (pd : d ≡ digits 8 2 m) where
 
 -- ---- the record of a change
 
-module _ (n : ℕ) (c log : List ℕ) (position : ℕ) (r : code.Appended) (l : List ℕ) where
+module _ (n : ℕ) (c log : List ℕ) (position : ℕ) (r : Result ℕ Refusal) (l : List ℕ) where
   pub issue-told : (b : ℕ) (front : List ℕ) → front ≡ digits 8 4 b → Tells log position (appended_record 3 n front c log position) r l
       → Tells log position (write_record (record { number = n; change = issue_code c b }) log position) r l
   unfolding appended_record write_record

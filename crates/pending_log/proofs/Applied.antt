@@ -1,22 +1,22 @@
 -- A record by its tag and its body: the test 24, its number and its change; and the record applied in its turn.
-use Prim.Native.Nat.{ℕ, ◌+◌, ◌-◌, ◌%◌, ◌^◌, ◌≤◌, ◌<◌}
-use mathlib.Core.Path.{◌≡◌, refl, sym, ◌∙◌, ap, ap₂, subst}
+use Rattle.std.specs.Prelude.{Ok, Err}
+use Prim.Native.Nat.{ℕ, min, ◌+◌, ◌%◌, ◌^◌, ◌≤◌, ◌<◌}
+use mathlib.Core.Path.{◌≡◌, refl, sym, ◌∙◌, ap}
 use mathlib.Core.Bool.{Bool, true, false, not, ◌&&◌}
 use mathlib.Core.List.{List, []}
 use native.Mathlib.Nat.{mod-eq_of_lt}
 use native.Mathlib.Omega.{arith}
 use lib.ListN.{length, take, drop, drop_of_length-le, length-take}
-use lib.Seq.{drop-drop}
+use lib.Seq.{drop-drop, take_all}
 use lib.Dec.{eqb, leb}
-use borrow.Author.Tests.{leb-true, leb-false, eq-eqb, ne_eqb, eqb-true}
+use borrow.Author.Tests.{leb-true, leb-false, eq-eqb, ne_eqb}
 use Rattle.iscc.specs.Refusals.{not_record, number_gap}
 use Rattle.iscc.specs.Answer.{Answer}
 use Rattle.iscc.specs.Digits.{Below, value}
-use Rattle.iscc.proofs.Booleans.{true-false, both_true}
+use Rattle.iscc.proofs.Booleans.{true-false}
 use Rattle.iscc.proofs.Digits.{below-take, below-drop}
-use Rattle.iscc.proofs.Parts.{rest-is}
 use Rattle.loans.specs.Loan.{one_code}
-use Rattle.loans.specs.Map.{Change, issue_code, return_code}
+use Rattle.loans.specs.Map.{issue_code, return_code}
 use Rattle.loans.specs.Register.{changed_area}
 use Rattle.loans.specs.Contents.{contents_of, register}
 use Rattle.loans.specs.Fields.{Field}
@@ -25,8 +25,7 @@ use Rattle.loans.specs.PendingLog.{number_in, is_numbered, numbered_of, in_turn}
 use Rattle.loans.proofs.Loan.{is_code}
 use Rattle.loans.proofs.Records.{small-value}
 use Rattle.loans.proofs.PendingLog.{skip-in-turn, gap-in-turn, next-in-turn}
-use Rattle.register.specs.declared.answer.Changed.{Changed}
-use Rattle.register.specs.declared.answer.Changed.TheVariants as changes
+use Rattle.register.specs.Representation.{Changed}
 use Rattle.register.proofs.Changes.{Told}
 use Rattle.pending_log.specs.AppliedArea.{applied_area}
 
@@ -36,6 +35,13 @@ use Rattle.pending_log.specs.AppliedArea.{applied_area}
 pub read_is : (bs : List ℕ) (k r : ℕ) → Below 256 bs → r ≡ value 8 (take 4 (drop k bs)) % 2 ^ 32 → r ≡ value 8 (take 4 (drop k bs))
 read_is bs k r b e =
     e ∙ mod-eq_of_lt (small-value (take 4 (drop k bs)) (below-take 256 4 (drop k bs) (below-drop 256 k bs b)) (simp length-take (omega arith)))
+
+pub front-number : (bs : List ℕ) (n r : ℕ) → Below 256 bs → n ≡ min (length bs) 4 → r ≡ value 8 (take n bs) % 2 ^ 32 → r ≡ value 8 (take 4 bs)
+front-number bs n r b h e = read_is bs 0 r b (e ∙ ap (λ (l : List ℕ). value 8 l % 2 ^ 32) (same (leb (length bs) 4) refl))
+  where
+    same : (x : Bool) → leb (length bs) 4 ≡ x → take n bs ≡ take 4 bs
+    same true w = let k = leb-true (length bs) 4 w in take_all n bs (omega (arith, h)) ∙ sym (take_all 4 bs k)
+    same false w = let k : n ≡ 4 = omega (arith, h, leb-false (length bs) 4 w) in ap (λ (i : ℕ). take i bs) k
 
 no_code : one_code [] ≡ false
 no_code = go (one_code []) refl
@@ -48,7 +54,7 @@ module _ (body : List ℕ) (k : ℕ) where
   none-there : length body < k → one_code (drop k body) ≡ false
   none-there h = ap one_code (drop_of_length-le body {i = k} (omega (arith, h))) ∙ no_code
 
-  code-within : one_code (drop k body) ≡ true → k ≤ length body
+  pub code-within : one_code (drop k body) ≡ true → k ≤ length body
   code-within e = go (leb k (length body)) refl
     where
       go : (b : Bool) → leb k (length body) ≡ b → k ≤ length body
@@ -60,9 +66,6 @@ module _ (body : List ℕ) (k : ℕ) where
 
   pub body-short : length body < k → false ≡ is_body
   body-short h = rw (none-there h)
-
-  pub body_is : (n : ℕ) (r : Bool) → n ≡ value 8 (take 4 body) → r ≡ one_code (take (length body - k) (drop k body)) && not (eqb n 0) → r ≡ is_body
-  body_is n r p e = e ∙ ap₂ (λ (c : List ℕ) (i : ℕ). one_code c && not (eqb i 0)) (rest-is body k) p
 
 -- ---- a field, by its tag
 
@@ -87,45 +90,17 @@ module _ (tag : ℕ) (body : List ℕ) where
   pub is-other : (tag ≡ 3 → ⊥) → (tag ≡ 4 → ⊥) → false ≡ is_numbered field
   is-other n m = sym (return-is n ∙ ap (λ (b : Bool). (b && one_code (drop 4 body)) && not (eqb (value 8 (take 4 body)) 0)) (ne_eqb tag 4 m))
 
-  module _ (v : is_numbered field ≡ true) where
-    code_at : tag ≡ 3 → one_code (drop 8 body) ≡ true
-    code_at e = (both_true (one_code (drop 8 body)) _ (issue-is e ∙ v)).0
+  -- the borrower, in the four bytes behind the number
+  pub borrower-part : (r : ℕ) → r ≡ value 8 (take 4 (take 4 (drop 4 body))) → r ≡ value 8 (take 4 (drop 4 body))
+  borrower-part r e = e ∙ ap (value 8) (take_all 4 (take 4 (drop 4 body)) (simp length-take (omega arith)))
 
-    pub issue-code : tag ≡ 3 → one_code (take (length body - 8) (drop 8 body)) ≡ true
-    issue-code e = ap one_code (rest-is body 8) ∙ code_at e
-
-    pub issue-within : tag ≡ 3 → 8 ≤ length body
-    issue-within e = code-within body 8 (code_at e)
-
-    pub return-within : (tag ≡ 3 → ⊥) → 4 ≤ length body
-    return-within n =
-        let c = (both_true (eqb tag 4 && one_code (drop 4 body)) _ (sym (return-is n) ∙ v)).0 in
-        code-within body 4 (both_true (eqb tag 4) (one_code (drop 4 body)) c).1
-
-    pub has-number : 4 ≤ length body
-    has-number = go (eqb tag 3) refl
-      where
-        go : (b : Bool) → eqb tag 3 ≡ b → 4 ≤ length body
-        go true w = omega (arith, issue-within (eqb-true tag 3 w))
-        go false w = return-within (λ e. true-false (eq-eqb tag 3 e) w)
-
-  issue-change : tag ≡ 3 → (numbered_of field).change ≡ issue_code (drop 8 body) (value 8 (take 4 (drop 4 body)))
+  pub issue-change : tag ≡ 3 → (numbered_of field).change ≡ issue_code (drop 8 body) (value 8 (take 4 (drop 4 body)))
   unfolding numbered_of change_of
   issue-change e = rw (eq-eqb tag 3 e, eight)
 
-  return-change : (tag ≡ 3 → ⊥) → (numbered_of field).change ≡ return_code (drop 4 body)
+  pub return-change : (tag ≡ 3 → ⊥) → (numbered_of field).change ≡ return_code (drop 4 body)
   unfolding numbered_of change_of
   return-change n = rw (ne_eqb tag 3 n)
-
-  module _ (area : List ℕ) (y : Changed) (d : List ℕ) where
-    abbrev Made : Change → Type 0
-    Made ch = Told (changed_area register ch area) area y d
-
-    pub issue-made : tag ≡ 3 → (b : ℕ) → b ≡ value 8 (take 4 (drop 4 body)) → Made (issue_code (take (length body - 8) (drop 8 body)) b) → Made (numbered_of field).change
-    issue-made e b p t = subst Made (ap₂ issue_code (rest-is body 8) p ∙ sym (issue-change e)) t
-
-    pub return-made : (tag ≡ 3 → ⊥) → Made (return_code (take (length body - 4) (drop 4 body))) → Made (numbered_of field).change
-    return-made n t = subst Made (ap return_code (rest-is body 4) ∙ sym (return-change n)) t
 
 -- ---- a record in its turn
 
@@ -133,7 +108,7 @@ module _ (f : Field) (area : List ℕ) where
   abbrev Applies : Changed → List ℕ → Type 0
   Applies = Told (applied_area f area) area
 
-  pub no_record : is_numbered f ≡ false → Applies (changes.Refused not_record) area
+  pub no_record : is_numbered f ≡ false → Applies (Err not_record) area
   unfolding applied_area
   no_record e = rw e (refl, refl)
 
@@ -145,10 +120,10 @@ module _ (f : Field) (area : List ℕ) where
     unfolding applied_area
     turn = rw (e, p, q)
 
-    pub skipped : n ≤ last → Applies (changes.Done last) area
-    skipped h = rw (turn, skip-in-turn n last area made h) (ap changes.Done q, refl)
+    pub skipped : n ≤ last → Applies (Ok last) area
+    skipped h = rw (turn, skip-in-turn n last area made h) (ap Ok q, refl)
 
-    pub gap : last < n → (n ≡ last + 1 → ⊥) → Applies (changes.Refused number_gap) area
+    pub gap : last < n → (n ≡ last + 1 → ⊥) → Applies (Err number_gap) area
     gap h m = rw (turn, gap-in-turn n last area made (omega (arith, h, m))) (refl, refl)
 
     pub next-made : n ≡ last + 1 → (y : Changed) (d : List ℕ) → Told (changed_area register (numbered_of f).change area) area y d → Applies y d

@@ -1,10 +1,11 @@
--- The size of the field that starts at an offset of a log, by its length bytes; 0 where it is not whole.
+-- The size of the field that starts at an offset of a log, by its length bytes; none where it is not whole.
 use Prim.Native.Nat.{ℕ, ◌+◌, ◌-◌, ◌*◌, ◌≤◌, ◌<◌}
-use mathlib.Core.Path.{◌≡◌, refl, ◌∙◌}
+use mathlib.Core.Path.{◌≡◌, refl, sym, ◌∙◌, ap}
 use mathlib.Core.Bool.{Bool, true, false, cond}
 use mathlib.Core.List.{List, [], ◌∷◌}
 use native.Mathlib.Omega.{arith}
-use lib.ListN.{length, get_or, take, drop, length-drop}
+use Rattle.std.specs.Prelude.{Some, None}
+use lib.ListN.{length, get_or, take, drop, length-drop, length-take}
 use lib.Seq.{drop-drop, get_or-drop}
 use borrow.Author.Tests.{le-leb, lt-leb}
 use Rattle.iscc.specs.Digits.{value}
@@ -19,18 +20,18 @@ two_bytes (a ∷ []) h = absurd (omega arith)
 two_bytes (a ∷ b ∷ []) h = absurd (omega arith)
 two_bytes (a ∷ b ∷ c ∷ ds) h = omega arith
 
-torn-size : (bs : List ℕ) → length bs < first_size bs → 0 ≡ whole_size bs
+torn-size : (bs : List ℕ) → length bs < first_size bs → None ≡ whole_size bs
 unfolding whole_size first_is_whole
 torn-size bs h = let e = lt-leb (first_size bs) (length bs) h in rw e
 
-sized : (bs : List ℕ) → first_size bs ≤ length bs → first_size bs ≡ whole_size bs
+sized : (bs : List ℕ) → first_size bs ≤ length bs → Some (first_size bs) ≡ whole_size bs
 unfolding whole_size first_is_whole
 sized bs h = let e = le-leb (first_size bs) (length bs) h in rw e
 
 -- ---- the size, as the code reads it
 
 module _ (log : List ℕ) (offset : ℕ) (within : offset ≤ length log) where
-  pub head-torn : length log - offset < 3 → 0 ≡ whole_size (drop offset log)
+  pub head-torn : length log - offset < 3 → None ≡ whole_size (drop offset log)
   head-torn h = torn-size (drop offset log) (omega (arith, h, size-least (drop offset log), length-drop offset log))
 
   module _ (whole : 3 ≤ length log - offset) (high low : ℕ) (h : high ≡ get_or log (offset + 1) 0) (l : low ≡ get_or log (offset + 2) 0) where
@@ -42,55 +43,53 @@ module _ (log : List ℕ) (offset : ℕ) (within : offset ≤ length log) where
         let b = get_or-drop offset log 2 0 in
         omega (arith, v, a, b, h, l)
 
-    pub body-torn : length log - offset < 3 + 256 * high + low → 0 ≡ whole_size (drop offset log)
+    pub body-torn : length log - offset < 3 + 256 * high + low → None ≡ whole_size (drop offset log)
     body-torn k = torn-size (drop offset log) (omega (arith, k, size_is, length-drop offset log))
 
-    pub size-whole : 3 + 256 * high + low ≤ length log - offset → 3 + 256 * high + low ≡ whole_size (drop offset log)
-    size-whole k = size_is ∙ sized (drop offset log) (omega (arith, k, size_is, length-drop offset log))
+    pub size-whole : 3 + 256 * high + low ≤ length log - offset → Some (3 + 256 * high + low) ≡ whole_size (drop offset log)
+    size-whole k = ap Some size_is ∙ sized (drop offset log) (omega (arith, k, size_is, length-drop offset log))
 
--- ---- what a size that is not 0 says, and one that is
+-- ---- what a size says, and that there is none
 
-pub is-torn : (bs : List ℕ) → whole_size bs ≡ 0 → first_is_whole bs ≡ false
+pub is-torn : (bs : List ℕ) → whole_size bs ≡ None → first_is_whole bs ≡ false
 unfolding whole_size
 is-torn bs e = go (first_is_whole bs) e
   where
-    go : (b : Bool) → cond b (first_size bs) 0 ≡ 0 → b ≡ false
-    go true e = absurd (omega (arith, e, size-least bs))
+    go : (b : Bool) → cond b (Some (first_size bs)) None ≡ None → b ≡ false
+    go true e = let z : ◌≡◌ {A = ℕ} 0 1 = cc in absurd (omega arith)
     go false e = refl
 
-pub is_whole : (bs : List ℕ) → (whole_size bs ≡ 0 → ⊥) → (first_is_whole bs ≡ true) × (whole_size bs ≡ first_size bs)
+pub is_whole : (bs : List ℕ) (n : ℕ) → whole_size bs ≡ Some n → (first_is_whole bs ≡ true) × (first_size bs ≡ n)
 unfolding whole_size
-is_whole bs n = go (first_is_whole bs) n
+is_whole bs n e = go (first_is_whole bs) e
   where
-    go : (b : Bool) → (cond b (first_size bs) 0 ≡ 0 → ⊥) → (b ≡ true) × (cond b (first_size bs) 0 ≡ first_size bs)
-    go true n = (refl, refl)
-    go false n = absurd (n refl)
+    go : (b : Bool) → cond b (Some (first_size bs)) None ≡ Some n → (b ≡ true) × (first_size bs ≡ n)
+    go true e = (refl, cc)
+    go false e = let z : ◌≡◌ {A = ℕ} 0 1 = cc in absurd (omega arith)
 
--- ---- the field at an offset, as the code hands it over
+-- ---- the field at an offset
 
-abbrev pub field_at : List ℕ → ℕ → ℕ → Field
-field_at log offset size = record { tag = get_or log offset 0; body = take (offset + size - (offset + 3)) (drop (offset + 3) log) }
-
-pub record FieldThere (log : List ℕ) (offset size : ℕ) : Type 0 where
-  pub whole : first_is_whole (drop offset log) ≡ true
-  pub size_is : size ≡ first_size (drop offset log)
-  pub least : 3 ≤ size
-  pub fits : offset + size ≤ length log
-  pub field : field_at log offset size ≡ first_field (drop offset log)
-
-pub field-there : (log : List ℕ) (offset : ℕ) → offset ≤ length log → (size : ℕ) → size ≡ whole_size (drop offset log) → (size ≡ 0 → ⊥)
-    → FieldThere log offset size
+pub field-is : (log : List ℕ) (offset size : ℕ) → offset ≤ length log → whole_size (drop offset log) ≡ Some size
+    → ◌≡◌ {A = Field} (record { tag = get_or log offset 0; body = take (offset + size - (offset + 3)) (drop (offset + 3) log) }) (first_field (drop offset log))
 unfolding first_field first_size
-field-there log offset within size e n =
-    let rest = drop offset log in
-    let w = is_whole rest (λ z. n (e ∙ z)) in
-    let s : size ≡ first_size rest = e ∙ w.1 in
-    let k : offset + size - (offset + 3) ≡ value 8 (take 2 (drop 1 rest)) = omega (arith, s) in
+field-is log offset size within e =
+    let w = is_whole (drop offset log) size e in
+    let k : offset + size - (offset + 3) ≡ value 8 (take 2 (drop 1 (drop offset log))) = omega (arith, w.1) in
     let i : offset + 0 ≡ offset = omega arith in
-    record {
-      whole = w.0;
-      size_is = s;
-      least = omega (arith, s, size-least rest);
-      fits = omega (arith, within, s, whole-size rest w.0, length-drop offset log);
-      field = rw (k, get_or-drop offset log 0 0, i, drop-drop 3 offset log);
-    }
+    rw (k, get_or-drop offset log 0 0, i, drop-drop 3 offset log)
+
+pub record FieldThere (log : List ℕ) (offset : ℕ) (f : Field) : Type 0 where
+  pub whole : first_is_whole (drop offset log) ≡ true
+  pub field : f ≡ first_field (drop offset log)
+  pub size_is : 3 + length f.body ≡ first_size (drop offset log)
+  pub fits : offset + (3 + length f.body) ≤ length log
+
+pub field-there : (log : List ℕ) (offset : ℕ) → offset ≤ length log → (f : Field) → true ≡ first_is_whole (drop offset log)
+    → f ≡ first_field (drop offset log) → FieldThere log offset f
+unfolding first_field first_size
+field-there log offset within f w e =
+    let rest = drop offset log in
+    let size : 3 + value 8 (take 2 (drop 1 rest)) ≤ length rest = whole-size rest (sym w) in
+    let n : 3 + length f.body ≡ first_size rest =
+    ap (λ (x : Field). 3 + length x.body) e ∙ simp (length-take, length-drop) (omega (arith, size, length-drop offset log)) in
+    record { whole = sym w; field = e; size_is = n; fits = omega (arith, within, n, size, length-drop offset log) }

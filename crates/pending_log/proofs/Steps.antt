@@ -1,4 +1,5 @@
 -- Replay of a log by the loop's steps: what a record makes of an area is what it makes of the contents.
+use Rattle.std.specs.Prelude.{Ok, Err}
 use Prim.Native.Nat.{ℕ, suc, ◌+◌, ◌≤◌, ◌<◌}
 use mathlib.Core.Path.{◌≡◌, refl, sym, ◌∙◌, ap, subst}
 use mathlib.Core.Bool.{Bool, true, false, cond}
@@ -26,15 +27,13 @@ use Rattle.loans.proofs.Contents.{register-known, register-sound}
 use Rattle.loans.proofs.Fields.{body_bytes}
 use Rattle.loans.proofs.PendingLog.{good-numbered, next-is-applied, record-good}
 use Rattle.loans.proofs.Replay.{replay-end, replay-torn, replay-step}
-use Rattle.register.specs.declared.answer.Changed.{Changed}
-use Rattle.register.specs.declared.answer.Changed.TheVariants as changes
+use Rattle.register.specs.Representation.{Changed}
 use Rattle.register.proofs.Changes.{Told}
 use Rattle.pending_log.specs.AppliedArea.{applied_area}
-use Rattle.pending_log.specs.WholeSize.{whole_size}
 use Rattle.pending_log.specs.Representation.{end_as, replayed_as, replayed_number, replayed_offset}
 use Rattle.pending_log.specs.declared.replay.Replayed.{Replayed}
 use Rattle.pending_log.specs.declared.replay.Replayed.TheVariants as ends
-use Rattle.pending_log.proofs.Sizes.{is-torn, field_at, FieldThere, field-there}
+use Rattle.pending_log.proofs.Sizes.{FieldThere}
 
 -- ---- one record on an area, and on its contents
 
@@ -102,15 +101,15 @@ all_told-is log area r d t =
 
 -- ---- what the code was told
 
-told-stop : (x : Answer (List ℕ)) (area : List ℕ) (y : Changed) (d : List ℕ) (q : Refusal) → Told x area y d → y ≡ changes.Refused q → (x ≡ refuse q) × (d ≡ area)
+told-stop : (x : Answer (List ℕ)) (area : List ℕ) (y : Changed) (d : List ℕ) (q : Refusal) → Told x area y d → y ≡ Err q → (x ≡ refuse q) × (d ≡ area)
 told-stop (accept a) area y d q t e = let k = sym t.0 ∙ e in let z : ◌≡◌ {A = ℕ} 0 1 = cc in absurd (omega arith)
 told-stop (refuse p) area y d q t e = (ap (λ (c : Changed). refuse (refusal_in c)) (sym t.0 ∙ e), t.1)
   where
     refusal_in : Changed → Refusal
-    refusal_in (changes.Done k) = q
-    refusal_in (changes.Refused r) = r
+    refusal_in (Ok k) = q
+    refusal_in (Err r) = r
 
-told-done : (x : Answer (List ℕ)) (area : List ℕ) (y : Changed) (d : List ℕ) (k : ℕ) → Told x area y d → y ≡ changes.Done k → x ≡ accept d
+told-done : (x : Answer (List ℕ)) (area : List ℕ) (y : Changed) (d : List ℕ) (k : ℕ) → Told x area y d → y ≡ Ok k → x ≡ accept d
 told-done (accept a) area y d k t e = ap accept (sym t.1)
 told-done (refuse p) area y d k t e = let k = sym t.0 ∙ e in let z : ◌≡◌ {A = ℕ} 0 1 = cc in absurd (omega arith)
 
@@ -151,17 +150,14 @@ module _ (log area₀ area : List ℕ) (offset : ℕ) (inv : Running log area₀
       ends_as ended
       (ap replay_rest (drop_of_length-le log {i = offset} h) ∙ replay-end apply_record offset (contents_of area))
 
-  pub torn-there : offset < length log → (size : ℕ) → size ≡ whole_size rest → size ≡ 0 → Ends (ends.Torn offset) area
-  torn-there h size e z =
+  pub torn-there : offset < length log → false ≡ first_is_whole rest → Ends (ends.Torn offset) area
+  torn-there h z =
       let d = drop-cons log offset 0 h in
       ends_as (torn offset)
       (ap replay_rest d
-      ∙ replay-torn apply_record offset (get_or log offset 0) (drop (suc offset) log) (contents_of area) (ap first_is_whole (sym d) ∙ is-torn rest (sym e ∙ z)))
+      ∙ replay-torn apply_record offset (get_or log offset 0) (drop (suc offset) log) (contents_of area) (ap first_is_whole (sym d) ∙ sym z))
 
-  module _ (size : ℕ) (e : size ≡ whole_size rest) (n : size ≡ 0 → ⊥) where
-    there : FieldThere log offset size
-    there = field-there log offset inv.within size e n
-
+  module _ (f : Field) (there : FieldThere log offset f) where
     -- the replay from here on, by what its first record gives
     abbrev goes_on : Answer Contents → replays.Replayed Contents
     goes_on x = go_on apply_record (contents_of area) offset x (λ ps. replay_from apply_record (offset + first_size rest) (drop (first_size rest) rest) ps)
@@ -169,21 +165,21 @@ module _ (log area₀ area : List ℕ) (offset : ℕ) (inv : Running log area₀
     first-applied : (x : Answer Contents) → apply_record (first_field rest) (contents_of area) ≡ x → replay_rest rest ≡ goes_on x
     first-applied x e = replay-step apply_record offset rest (contents_of area) there.whole ∙ ap goes_on e
 
-    module _ (y : Changed) (d : List ℕ) (t : Told (applied_area (field_at log offset size) area) area y d) (lb : Below 256 log) where
+    module _ (y : Changed) (d : List ℕ) (t : Told (applied_area (f) area) area y d) (lb : Below 256 log) where
       told : Told (applied_area (first_field rest) area) area y d
-      told = subst (λ (f : Field). Told (applied_area f area) area y d) there.field t
+      told = subst (λ (x : Field). Told (applied_area x area) area y d) there.field t
 
       bytes : Below 256 (first_field rest).body
       bytes = body_bytes rest (below-drop 256 offset log lb)
 
-      pub stopped-there : (q : Refusal) → y ≡ changes.Refused q → Ends (ends.Stopped q offset) d
+      pub stopped-there : (q : Refusal) → y ≡ Err q → Ends (ends.Stopped q offset) d
       stopped-there q k =
           let s = told-stop (applied_area (first_field rest) area) area y d q told k in
           let r : apply_record (first_field rest) (contents_of area) ≡ refuse q = step-stop (first_field rest) area inv.valid bytes inv.bytes q s.0 in
           subst (Ends (ends.Stopped q offset)) (sym s.1) (ends_as (stopped q offset) (first-applied (refuse q) r))
 
-      pub one_more : ((k : ℕ) → get_or d k 0 < 256) → (m : ℕ) → y ≡ changes.Done m → Running log area₀ d (offset + size)
-      one_more db m k =
+      applied-there : ((k : ℕ) → get_or d k 0 < 256) → (m : ℕ) → y ≡ Ok m → Running log area₀ d (offset + (3 + length f.body))
+      applied-there db m k =
           let s = told-done (applied_area (first_field rest) area) area y d m told k in
           let g : StepDone (first_field rest) area d = step-done (first_field rest) area inv.valid bytes inv.bytes d s in
           let r =
@@ -197,6 +193,9 @@ module _ (log area₀ area : List ℕ) (offset : ℕ) (inv : Running log area₀
             size = (register-known d g.valid).size ∙ sym (register-known area inv.valid).size ∙ inv.size;
             same = inv.same ∙ ap (λ (x : replays.Replayed Contents). accept (in_bytes register apply_record x)) r;
           }
+
+      pub one_more : ((k : ℕ) → get_or d k 0 < 256) → (m : ℕ) → y ≡ Ok m → (n : ℕ) → n ≡ offset + (3 + length f.body) → Running log area₀ d n
+      one_more db m k n e = subst (Running log area₀ d) (sym e) (applied-there db m k)
 
 -- ---- 23 before all else
 

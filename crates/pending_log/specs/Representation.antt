@@ -1,17 +1,30 @@
 -- The answers in the code.
-use Rattle.std.specs.Prelude.{ℕ, List}
+use Rattle.iscc.specs.Refusals.{Refusal, refusal_number}
+use Rattle.std.specs.Prelude.{ℕ, List, Result, Ok, Err}
 use Rattle.iscc.specs.Answer.{Answer, accept, refuse}
 use Rattle.loans.specs.Writer.{Written}
 use Rattle.loans.specs.Replay.{End, ended, torn, stopped}
 use Rattle.loans.specs.Replay as replays
-use Rattle.pending_log.specs.declared.append.Appended.{Appended}
+use Rattle.loans.specs.Map as map
+use Rattle.loans.specs.Fields as fields
+use Rattle.pending_log.specs.declared.field.Change.{Change}
+use Rattle.pending_log.specs.declared.field.Change.TheVariants.{Issue, Return}
+use Rattle.pending_log.specs.declared.field.Field.{Field}
 use Rattle.pending_log.specs.declared.replay.Replayed.{Replayed}
 use Rattle.pending_log.specs.declared.replay.Replayed.TheVariants as ends
 
--- the answer of an append; a refusal tells the position as it was
-abbrev pub appended_as : ℕ → Answer Written → Appended
-appended_as position (accept w) = record { number = 0; position = w.position }
-appended_as position (refuse q) = record { number = q.number; position = position }
+-- a field, and the change of the record in it, as the code has them
+abbrev pub field_in : Field → fields.Field
+field_in f = record { tag = f.tag; body = f.body.now }
+
+abbrev pub change_in : Change → map.Change
+change_in (Issue code borrower) = map.issue_code code.now borrower
+change_in (Return code) = map.return_code code.now
+
+-- the answer of an append: the position behind the record; with a refusal the caller's stays
+abbrev pub appended_as : Answer Written → Result ℕ Refusal
+appended_as (accept w) = Ok w.position
+appended_as (refuse q) = Err q
 
 abbrev pub end_as : End → Replayed
 end_as ended = ends.Ended
@@ -27,8 +40,8 @@ replayed_as (refuse q) = ends.Refused q
 abbrev pub replayed_number : Replayed → ℕ
 replayed_number ends.Ended = 0
 replayed_number (ends.Torn offset) = 0
-replayed_number (ends.Stopped q offset) = q.number
-replayed_number (ends.Refused q) = q.number
+replayed_number (ends.Stopped q offset) = (refusal_number q)
+replayed_number (ends.Refused q) = (refusal_number q)
 
 abbrev pub replayed_offset : Replayed → ℕ
 replayed_offset ends.Ended = 0

@@ -5,15 +5,14 @@ ghost use Rattle.loans.specs.Replay.{replay_number, replay_offset, area_replayed
 ghost use Rattle.loans.specs.PendingLog.{replay_log};
 ghost use Rattle.pending_log.specs.Representation.{replayed_as, replayed_number, replayed_offset};
 
-use crate::{apply, field};
+use crate::apply;
+use crate::field::Field;
 use iscc::refusal::Refusal;
-use loans::layout::HEAD_LENGTH;
-use register::answer::Changed;
 use register::check;
 
 // How a replay ended. Numbers and offsets by the specification: `replayed_number` and `replayed_offset` of
 // specs/Representation.antt.
-#[derive(Clone, Copy)]
+#[derive(Clone, Copy, Debug, PartialEq, Eq)]
 pub enum Replayed {
     // The log ran to its end.
     Ended,
@@ -35,7 +34,7 @@ pub fn replay(log: &[u8], area: &mut [u8]) -> Replayed
     if check::is_register(area) {
         return run(log, area);
     }
-    Replayed::Refused(Refusal::NOT_REGISTER)
+    Replayed::Refused(Refusal::NotRegister)
 }
 
 pub fn run(log: &[u8], area: &mut [u8]) -> Replayed
@@ -44,21 +43,15 @@ pub fn run(log: &[u8], area: &mut [u8]) -> Replayed
     ensures area { area.new ≡ area_replayed area.old (replay_log log.now area.old) }
 {
     let mut offset = 0;
+    // By its offset: that tells where the replay ended, and an iterator over the fields would have to count it beside them.
     while offset < log.len() {
-        let size = field::whole_size(log, offset);
-        if size == 0 {
+        let Some(field) = Field::at(log, offset) else {
             return Replayed::Torn(offset);
+        };
+        if let Err(q) = apply::apply(field, area) {
+            return Replayed::Stopped(q, offset);
         }
-        let body = &log[offset + HEAD_LENGTH..offset + size];
-        let answer = apply::apply(log[offset], body, area);
-        match answer {
-            Changed::Done(_) => {
-                offset += size;
-            }
-            Changed::Refused(q) => {
-                return Replayed::Stopped(q, offset);
-            }
-        }
+        offset += field.size();
     }
     Replayed::Ended
 }

@@ -1,5 +1,5 @@
 -- The places counted in the order test: the counts of those so far, then of all.
-use Prim.Native.Nat.{ℕ, zero, suc, ◌+◌, ◌-◌, ◌*◌, ◌≤◌, ◌<◌}
+use Prim.Native.Nat.{ℕ, zero, suc, ◌+◌, ◌-◌, ◌*◌, ◌/◌, ◌≤◌, ◌<◌}
 use mathlib.Core.Path.{◌≡◌, refl, sym, ◌∙◌, ap}
 use mathlib.Core.Bool.{Bool, true, false, ◌&&◌}
 use mathlib.Core.Option.{Option, none, some}
@@ -10,20 +10,21 @@ use lib.ListN.{length, get_or, take, drop, take-append-drop}
 use lib.Seq.{drop-drop}
 use lib.Dec.{ltb, leb}
 use borrow.Author.Tests.{ltb-true, ne_eqb}
+use Rattle.std.specs.Simd.{first_chunks}
 use Rattle.iscc.specs.Digits.{value, all_below}
 use Rattle.iscc.specs.Lists.{same_bytes}
 use Rattle.iscc.proofs.Booleans.{both_true}
 use Rattle.loans.specs.Loan.{Loan, loan_of, one_code}
 use Rattle.loans.specs.Place.{place_of, is_place, places_of, loans_in}
-use Rattle.loans.specs.Order.{are_ordered, loans_at}
+use Rattle.loans.specs.Order.{follows, are_ordered, loans_at}
 use Rattle.loans.specs.Counts.{code_type, counts_bytes}
 use Rattle.loans.specs.Moves.{one_more}
 use Rattle.loans.proofs.Places.{loans-most}
 use Rattle.loans.proofs.PlaceAt.{count-places}
 use Rattle.loans.proofs.CodeType.{type-small}
-use Rattle.loans.proofs.Counts.{length-counts, one_more-is, counts-snoc}
-use Rattle.places.specs.Used.{is_used}
-use Rattle.places.proofs.OrderTests.{used-place, zeros-apart, free-place, OrderLeft, by-zeros}
+use Rattle.loans.proofs.Counts.{one_more-is, counts-snoc}
+use Rattle.places.specs.Used.{is_used, code_in}
+use Rattle.places.proofs.OrderTests.{used-place, zeros-apart, free-place, OrderLeft, order-starts, none-used, order-next, order-ends, by-zeros}
 
 -- ---- places laid end to end: the loans in the first of them, and in those behind
 
@@ -66,7 +67,7 @@ module _ (place : List ℕ) (u : is_used place ≡ true) where
   abbrev code : List ℕ
   code = take (get_or place 0 0) (drop 1 place)
 
-  used-code : one_code (take (get_or place 0 0) (drop 1 place)) ≡ true
+  pub used-code : one_code (take (get_or place 0 0) (drop 1 place)) ≡ true
   unfolding is_place
   used-code =
       let p = used-place place u in
@@ -77,17 +78,6 @@ module _ (place : List ℕ) (u : is_used place ≡ true) where
   used-loan : place_of place ≡ some (loan_of (take (get_or place 0 0) (drop 1 place)) (value 8 (take 4 (drop 44 place))))
   unfolding place_of
   used-loan = rw (ne_eqb (get_or place 0 0) 0 (used-place place u).1)
-
-  module _ (n : ℕ) (e : n ≡ get_or place 0 0) where
-    part-is : take (1 + n - 1) (drop 1 place) ≡ code
-    part-is = let k : 1 + n - 1 ≡ get_or place 0 0 = omega (arith, e) in ap (λ (j : ℕ). take j (drop 1 place)) k
-
-    pub part-code : one_code (take (1 + n - 1) (drop 1 place)) ≡ true
-    part-code = ap one_code part-is ∙ used-code
-
-    pub counted-by : (m : ℕ) → m ≡ code_type (take (1 + n - 1) (drop 1 place)) → (cs ds : List ℕ) → ds ≡ one_more m cs
-        → ds ≡ one_more (code_type (take (get_or place 0 0) (drop 1 place))) cs
-    counted-by m t cs ds q = q ∙ ap (λ (k : ℕ). one_more k cs) (t ∙ ap code_type part-is)
 
 one-loan : (bs : List ℕ) → is_used (take 48 bs) ≡ true
     → loans_in (places_of 1 bs) ≡ loan_of (take (get_or (take 48 bs) 0 0) (drop 1 (take 48 bs))) (value 8 (take 4 (drop 44 (take 48 bs)))) ∷ []
@@ -109,41 +99,67 @@ module _ (bs cs ds : List ℕ) (i : ℕ) (h : i < 256) (e : cs ≡ counts_bytes 
 
 -- ---- the loop, and the whole test
 
-pub counts-size : (cs : List ℕ) (ls : List Loan) → cs ≡ counts_bytes ls → length cs ≡ 16
-counts-size cs ls e = ap length e ∙ length-counts ls
-
-pub same_size : (cs ds : List ℕ) (ks ls : List Loan) → cs ≡ counts_bytes ks → ds ≡ counts_bytes ls → length cs ≡ length ds
-same_size cs ds ks ls e f = counts-size cs ks e ∙ sym (counts-size ds ls f)
-
-pub is_true : (a r : Bool) → r ≡ a → r ≡ true → a ≡ true
-is_true a r e w = sym e ∙ w
-
-pub next-used : (a f r : Bool) → r ≡ (a && f) → r ≡ true → a ≡ true
-next-used a f r e w = (both_true a f (sym e ∙ w)).0
-
--- the places before i are used, in order, and counted
-pub record CountedLeft (bs cs : List ℕ) (i : ℕ) : Type 0 where
+-- the places before i are used, in order, and counted; `last` is the one right before i
+pub record CountedLeft (bs cs last : List ℕ) (i : ℕ) : Type 0 where
   pub order : OrderLeft bs i
   pub counts : cs ≡ counts_bytes (loans_in (places_of i bs))
+  pub before : last ≡ take 48 (drop (48 * (i - 1)) bs)
 
 pub counted_none : (bs cs : List ℕ) → cs ≡ counts_bytes [] → cs ≡ counts_bytes (loans_in (places_of 0 bs))
 unfolding places_of loans_in
 counted_none bs cs e = e
 
-module _ (bs cs ds : List ℕ) where
-  pub counted-first : (r : Bool) → r ≡ is_used (take 48 bs) → r ≡ true → cs ≡ counts_bytes []
-      → ds ≡ one_more (code_type (take (get_or (take 48 bs) 0 0) (drop 1 (take 48 bs)))) cs → ds ≡ counts_bytes (loans_in (places_of 1 bs))
-  unfolding places_of loans_in
-  counted-first r e f w q = counted-one bs cs ds 0 (omega arith) w (sym e ∙ f) q
+place-within : (xs : List ℕ) (i k : ℕ) → i < k → get_or (first_chunks 48 k xs) i [] ≡ take 48 (drop (48 * i) xs)
+place-within xs i zero h = absurd (omega arith)
+place-within xs zero (suc k) h = refl
+place-within xs (suc i) (suc k) h =
+    place-within (drop 48 xs) i k (omega arith) ∙ ap (take 48) (drop-drop (48 * i) 48 xs ∙ ap (λ (j : ℕ). drop j xs) (omega arith))
 
-  pub counted_next : (i : ℕ) (r f : Bool) → i < 256 → cs ≡ counts_bytes (loans_in (places_of i bs))
-      → r ≡ (is_used (take (48 * i + 48 - 48 * i) (drop (48 * i) bs)) && f) → r ≡ true
-      → ds ≡ one_more (code_type (take (get_or (take (48 * i + 48 - 48 * i) (drop (48 * i) bs)) 0 0) (drop 1 (take (48 * i + 48 - 48 * i) (drop (48 * i) bs))))) cs
-      → ds ≡ counts_bytes (loans_in (places_of (i + 1) bs))
-  counted_next i r f h w e t q =
-      let k : 48 * i + 48 - 48 * i ≡ 48 = omega arith in
-      counted-one bs cs ds i h w (ap (λ (n : ℕ). is_used (take n (drop (48 * i) bs))) (sym k) ∙ next-used _ f r e t)
-      (q ∙ ap (λ (n : ℕ). one_more (code_type (take (get_or (take n (drop (48 * i) bs)) 0 0) (drop 1 (take n (drop (48 * i) bs))))) cs) k)
+module _ (bs : List ℕ) (l : length bs ≡ 12288) (each : List (List ℕ)) (e : each ≡ first_chunks 48 (length bs / 48) bs) where
+  each-is : (i : ℕ) → i < 256 → get_or each i [] ≡ take 48 (drop (48 * i) bs)
+  each-is i h = ap (λ (xs : List (List ℕ)). get_or xs i []) e ∙ place-within bs i (length bs / 48) (omega (arith, l))
+
+  pub none-first : false ≡ is_used (get_or each 0 []) → all_below 1 (drop (48 * 0) bs) ≡ are_ordered bs
+  none-first u = none-used bs l false (u ∙ ap is_used (each-is 0 (omega arith))) refl
+
+  pub counted-first : (cs ds place : List ℕ) (m : ℕ) → true ≡ is_used (get_or each 0 []) → place ≡ get_or each 0 [] → cs ≡ counts_bytes []
+      → m ≡ code_type (code_in place) → ds ≡ one_more m cs → CountedLeft bs ds place 1
+  counted-first cs ds place m u p w t q =
+      let k : place ≡ take 48 bs = p ∙ each-is 0 (omega arith) in
+      let v : true ≡ is_used (take 48 bs) = u ∙ ap is_used (each-is 0 (omega arith)) in
+      record {
+        order = order-starts bs l true v refl;
+        counts = counted-one bs cs ds 0 (omega arith) (counted_none bs cs w) (sym v) (q ∙ ap (λ (n : ℕ). one_more n cs) (t ∙ ap (λ (b : List ℕ). code_type (code_in b)) k));
+        before = k;
+      }
+
+  module _ (cs last : List ℕ) (i : ℕ) (inv : CountedLeft bs cs last i) (h : i < 256) where
+    pub none-next : false ≡ is_used (get_or each i []) → all_below 1 (drop (48 * i) bs) ≡ are_ordered bs
+    none-next u =
+        let v : false ≡ is_used (take 48 (drop (48 * i) bs)) = u ∙ ap is_used (each-is i h) in
+        order-ends bs l i inv.order h false (ap (λ (b : Bool). b && follows (place_of (take 48 (drop (48 * (i - 1)) bs))) (place_of (take 48 (drop (48 * i) bs)))) v) refl
+
+    module _ (place : List ℕ) (p : place ≡ get_or each i []) (u : true ≡ is_used (get_or each i [])) (r : Bool) (f : r ≡ follows (place_of last) (place_of place)) where
+      place-is : place ≡ take 48 (drop (48 * i) bs)
+      place-is = p ∙ each-is i h
+
+      used : true ≡ is_used (take 48 (drop (48 * i) bs))
+      used = u ∙ ap is_used (each-is i h)
+
+      both : r ≡ (is_used (take 48 (drop (48 * i) bs)) && follows (place_of (take 48 (drop (48 * (i - 1)) bs))) (place_of (take 48 (drop (48 * i) bs))))
+      both = f ∙ rw (← used, ← place-is, ← inv.before)
+
+      pub not-next : r ≡ false → all_below 1 (drop (48 * i) bs) ≡ are_ordered bs
+      not-next w = order-ends bs l i inv.order h r both w
+
+      pub counted_next : r ≡ true → (m : ℕ) (ds : List ℕ) → m ≡ code_type (code_in place) → ds ≡ one_more m cs → CountedLeft bs ds place (i + 1)
+      counted_next w m ds t q =
+          let k : i + 1 - 1 ≡ i = omega arith in
+          record {
+            order = order-next bs l i inv.order h r both w;
+            counts = counted-one bs cs ds i h inv.counts (sym used) (q ∙ ap (λ (n : ℕ). one_more n cs) (t ∙ ap (λ (b : List ℕ). code_type (code_in b)) place-is));
+            before = rw k place-is;
+          }
 
 module _ (cs bs ds : List ℕ) (n : ℕ) (a : Bool) (l : length bs ≡ 12288) (h : n ≤ 256) (o : all_below 1 (drop (48 * n) bs) ≡ are_ordered bs)
     (w : a ≡ all_below 1 (take (12288 - 48 * n) (drop (48 * n) bs))) where

@@ -15,8 +15,9 @@ use Rattle.iscc.proofs.Booleans.{both_true}
 use Rattle.iscc.proofs.Demand3.{same_bytes-eq}
 use Rattle.octets.specs.Order.{before}
 use Rattle.octets.specs.Representation.{order_as, front_as}
-use Rattle.octets.specs.declared.compare.Order.{Order}
-use Rattle.octets.specs.declared.compare.Order.TheVariants.{Before, Same, Behind}
+use Rattle.std.specs.Ordering.{is_lt, MatchOrdering}
+use Rattle.std.specs.declared.cmp.Ordering.{Ordering}
+use Rattle.std.specs.declared.cmp.Ordering.TheVariants.{Less, Equal, Greater}
 use Rattle.octets.proofs.Total.{before-other}
 use Rattle.octets.proofs.Answers.{order_same, order-before, order-behind, front-before, front-behind}
 use Rattle.loans.specs.Loan.{Loan}
@@ -24,7 +25,7 @@ use Rattle.loans.specs.Place.{place_of, is_place, places_of, are_places}
 use Rattle.loans.specs.Order.{follows, in_order, are_ordered}
 use Rattle.loans.proofs.Places.{place_at, places-on}
 use Rattle.loans.proofs.PlaceAt.{short-place, count-places}
-use Rattle.places.specs.Used.{is_used}
+use Rattle.places.specs.Used.{is_used, code_in}
 
 -- ---- a used place
 
@@ -44,53 +45,40 @@ code_fits bs n l p e = omega (arith, e, l, short-place bs (used-place bs p).0)
 
 -- ---- one byte string before another
 
-module _ (a b : List ℕ) (r : Order) (q : r ≡ order_as a b) where
-  pub is-before : r ≡ Before → true ≡ before a b
+module _ (a b : List ℕ) (r : Ordering) (q : r ≡ order_as a b) where
+  is-before : r ≡ Less → true ≡ before a b
   is-before w = sym (order-before a b (sym q ∙ w)).1
 
-  pub not_same : r ≡ Same → false ≡ before a b
+  not_same : r ≡ Equal → false ≡ before a b
   not_same w = sym (go (before a b) refl)
     where
       go : (d : Bool) → before a b ≡ d → before a b ≡ false
       go true e = absurd (before-other a b e (same_bytes-eq a b (order_same a b (sym q ∙ w))))
       go false e = e
 
-  pub not_behind : r ≡ Behind → false ≡ before a b
+  not_behind : r ≡ Greater → false ≡ before a b
   not_behind w = sym (order-behind a b (sym q ∙ w)).1
+
+lt-is : (a b : List ℕ) (r : Ordering) → r ≡ order_as a b → is_lt r ≡ before a b
+lt-is a b Less q = is-before a b Less q refl
+lt-is a b Equal q = not_same a b Equal q refl
+lt-is a b Greater q = not_behind a b Greater q refl
 
 -- ---- one used place behind another
 
-module _ (place other : List ℕ) (p : is_used place ≡ true) (o : is_used other ≡ true) (n m : ℕ) (e : n ≡ get_or place 0 0) (f : m ≡ get_or other 0 0) where
-  abbrev code : List ℕ
-  code = take (1 + n - 1) (drop 1 place)
-
-  abbrev earlier : List ℕ
-  earlier = take (1 + m - 1) (drop 1 other)
-
-  by_codes : follows (place_of other) (place_of place) ≡ before earlier code
+module _ (place other : List ℕ) (p : is_used place ≡ true) (o : is_used other ≡ true) where
+  by_codes : follows (place_of other) (place_of place) ≡ before (code_in other) (code_in place)
   unfolding place_of follows
-  by_codes =
-      let k : 1 + m - 1 ≡ m = omega arith in
-      let l : 1 + n - 1 ≡ n = omega arith in
-      rw (k, l, ← e, ← f, ne_eqb m 0 (λ z. (used-place other o).1 (sym f ∙ z)), ne_eqb n 0 (λ z. (used-place place p).1 (sym e ∙ z)))
+  by_codes = rw (ne_eqb (get_or other 0 0) 0 (used-place other o).1, ne_eqb (get_or place 0 0) 0 (used-place place p).1)
 
-  pub follow-whole : (r : Bool) → r ≡ before (take (1 + m - 1) (drop 1 other)) (take (1 + n - 1) (drop 1 place)) → r ≡ follows (place_of other) (place_of place)
-  follow-whole r q = q ∙ sym by_codes
-
-  module _ (r : Order) (q : r ≡ front_as (take (1 + m - 1) (drop 1 other)) (take (1 + n - 1) (drop 1 place))) where
-    pub follow-before : r ≡ Before → true ≡ follows (place_of other) (place_of place)
-    follow-before w = sym (by_codes ∙ (order-before earlier code (front-before earlier code (sym q ∙ w))).1)
-
-    pub follow-behind : r ≡ Behind → false ≡ follows (place_of other) (place_of place)
-    follow-behind w = sym (by_codes ∙ (order-behind earlier code (front-behind earlier code (sym q ∙ w))).1)
-
-pub by_both : (a b r s : Bool) → r ≡ a → r ≡ true → s ≡ b → s ≡ (a && b)
-by_both true b r s e f w = w
-by_both false b r s e f w = absurd (true≢false (sym f ∙ e))
-
-pub by_first : (a b r : Bool) → r ≡ a → r ≡ false → false ≡ (a && b)
-by_first true b r e f = absurd (true≢false (sym e ∙ f))
-by_first false b r e f = refl
+  pub follow-is : (e c : List ℕ) → e ≡ code_in other → c ≡ code_in place → (q r : Ordering) → q ≡ front_as e c
+      → (P : Type 0) → (P → r ≡ order_as e c) → MatchOrdering q (r ≡ Less) P (r ≡ Greater) → is_lt r ≡ follows (place_of other) (place_of place)
+  follow-is e c d n q r f P p m = go q f m ∙ rw (d, n) (sym by_codes)
+    where
+      go : (q : Ordering) → q ≡ front_as e c → MatchOrdering q (r ≡ Less) P (r ≡ Greater) → is_lt r ≡ before e c
+      go Less f m = ap is_lt m ∙ sym (order-before e c (front-before e c (sym f))).1
+      go Equal f m = lt-is e c r (p m)
+      go Greater f m = ap is_lt m ∙ sym (order-behind e c (front-behind e c (sym f))).1
 
 -- ---- zeros: behind a free place the order is kept by these alone
 
@@ -165,9 +153,6 @@ behind-free (suc n) bs l = go (eqb (get_or bs 0 0) 0) refl (behind-free n (drop 
 pub place-size : (bs : List ℕ) (i : ℕ) → length bs ≡ 12288 → i < 256 → length (take (48 * i + 48 - 48 * i) (drop (48 * i) bs)) ≡ 48
 place-size bs i l h = simp (length-take, length-drop) (omega arith)
 
-pub other-size : (bs : List ℕ) (i : ℕ) → length bs ≡ 12288 → i < 256 → 1 ≤ i → length (take (48 * i - (48 * i - 48)) (drop (48 * i - 48) bs)) ≡ 48
-other-size bs i l h k = simp (length-take, length-drop) (omega arith)
-
 drop-places : (i n : ℕ) (bs : List ℕ) → i ≤ n → drop i (places_of n bs) ≡ places_of (n - i) (drop (48 * i) bs)
 unfolding places_of
 drop-places zero n bs h = let k : n - 0 ≡ n = omega arith in rw k
@@ -218,15 +203,6 @@ module _ (bs : List ℕ) (l : length bs ≡ 12288) where
           not_zeros bs z ∙ sym (rw (places-on 256 0 bs (omega arith), p))
 
   module _ (i : ℕ) (inv : OrderLeft bs i) where
-    other-is : take (48 * i - (48 * i - 48)) (drop (48 * i - 48) bs) ≡ take 48 (drop (48 * (i - 1)) bs)
-    other-is =
-        let k : 48 * i - (48 * i - 48) ≡ 48 = omega (arith, inv.some) in
-        let j : 48 * i - 48 ≡ 48 * (i - 1) = omega (arith, inv.some) in
-        rw (k, j)
-
-    pub other-used : is_used (take (48 * i - (48 * i - 48)) (drop (48 * i - 48) bs)) ≡ true
-    other-used = ap is_used other-is ∙ inv.used
-
     module _ (h : i < 256) where
       abbrev rest : List ℕ
       rest = drop (48 * i) bs
@@ -251,15 +227,7 @@ module _ (bs : List ℕ) (l : length bs ≡ 12288) where
       step : ((is_place place && are_places (256 - (i + 1)) (drop (48 * (i + 1)) bs)) && (follows (place_of other) (place_of place) && in_order (drop i ps))) ≡ are_ordered bs
       step = ap₂ (λ (a o : Bool). a && o) (sym (places-on 256 i bs h)) (sym in-next) ∙ inv.same
 
-      module _ (r : Bool)
-          (e : r ≡ (is_used (take (48 * i + 48 - 48 * i) (drop (48 * i) bs))
-          && follows (place_of (take (48 * i - (48 * i - 48)) (drop (48 * i - 48) bs))) (place_of (take (48 * i + 48 - 48 * i) (drop (48 * i) bs))))) where
-        place_is : take (48 * i + 48 - 48 * i) (drop (48 * i) bs) ≡ place
-        place_is = let k : 48 * i + 48 - 48 * i ≡ 48 = omega arith in rw k
-
-        tested : r ≡ (is_used place && follows (place_of other) (place_of place))
-        tested = e ∙ rw (place_is, other-is)
-
+      module _ (r : Bool) (tested : r ≡ (is_used place && follows (place_of other) (place_of place))) where
         pub order-next : r ≡ true → OrderLeft bs (i + 1)
         order-next f =
             let k : i + 1 - 1 ≡ i = omega arith in
@@ -291,7 +259,7 @@ module _ (bs : List ℕ) (l : length bs ≡ 12288) where
                 let p : (is_place place && follows (place_of other) (place_of place)) ≡ false = ap (λ (b : Bool). b && follows (place_of other) (place_of place)) (sym u) ∙ sym tested ∙ f in
                 not_zeros rest z ∙ sym (one-fails (is_place place) _ (follows (place_of other) (place_of place)) _ p) ∙ step
 
-    pub order-all : 256 ≤ i → all_below 1 (drop (48 * i) bs) ≡ are_ordered bs
+    order-all : 256 ≤ i → all_below 1 (drop (48 * i) bs) ≡ are_ordered bs
     unfolding are_places in_order all_below
     order-all h =
         let n : length ps ≡ 256 = count-places 256 bs in
@@ -301,6 +269,9 @@ module _ (bs : List ℕ) (l : length bs ≡ 12288) where
         let x : drop 255 ps ≡ get_or ps 255 none ∷ [] = drop-cons ps 255 none (omega (arith, n)) ∙ ap (λ (qs : List (Option Loan)). get_or ps 255 none ∷ qs) d in
         let y : drop (48 * i) bs ≡ [] = drop_of_length-le bs {i = 48 * i} (omega (arith, l, h)) in
         ap (all_below 1) y ∙ sym (rw (z, k, x) refl) ∙ inv.same
+
+    pub order-whole : 256 ≤ i → all_below 1 (drop 12288 bs) ≡ are_ordered bs
+    order-whole h = let k : 12288 ≡ 48 * i = omega (arith, h, inv.within) in ap (λ (n : ℕ). all_below 1 (drop n bs)) k ∙ order-all h
 
 pub by-zeros : (bs : List ℕ) (n : ℕ) (r : Bool) → length bs ≡ 12288 → all_below 1 (drop (48 * n) bs) ≡ are_ordered bs
     → r ≡ all_below 1 (take (12288 - 48 * n) (drop (48 * n) bs)) → r ≡ are_ordered bs

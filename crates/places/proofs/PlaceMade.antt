@@ -1,19 +1,21 @@
 -- A place made of its parts: the length, the code over zeros, the borrower; one written over another; and the borrower read.
-use Prim.Native.Nat.{ℕ, ◌+◌, ◌-◌, ◌*◌, ◌%◌, ◌^◌, ◌≤◌, ◌<◌}
+use Prim.Native.Nat.{ℕ, ◌+◌, ◌-◌, ◌*◌, ◌≤◌, ◌<◌}
 use mathlib.Core.Path.{◌≡◌, sym, ◌∙◌, ap}
 use mathlib.Core.Option.{some}
 use mathlib.Core.List.{List, [], ◌∷◌, ◌++◌, append_assoc, append-nil}
-use native.Mathlib.Nat.{mod-eq_of_lt}
 use native.Mathlib.Omega.{arith}
 use lib.ListN.{length, take, drop, replicate, length-append, length-drop}
-use lib.Seq.{take_at, drop_at, drop-drop, length-take-le}
-use Rattle.iscc.specs.Digits.{Below, digits, value}
-use Rattle.iscc.proofs.Digits.{below-take, below-drop, value-lt}
+use lib.Seq.{take_all, take_at, drop_at, drop-drop, take-take}
+use Rattle.std.specs.Int.{w32, from_be_bytes}
+use Rattle.std.specs.Array.{IsWholeChunk}
+use Rattle.iscc.specs.Digits.{digits, value}
+use Rattle.iscc.proofs.Parts.{drop-take}
 use Rattle.loans.specs.Loan.{loan_of}
 use Rattle.loans.specs.Place.{zeros, place_bytes}
 use Rattle.loans.specs.Moves.{pasted}
 use Rattle.loans.proofs.Place.{length-zeros}
 use Rattle.loans.proofs.Places.{zeros-more}
+use Rattle.places.proofs.OrderTests.{place-size}
 
 -- a byte string that has been written behind the length over 47 zeros: it, zeros up to 43 bytes, and the four of the borrower
 module _ (c e : List ℕ) (l : length c ≤ 42) (p : e ≡ c) where
@@ -55,13 +57,28 @@ pub put_written : (area place e : List ℕ) (i : ℕ) → length place ≡ 48 �
 unfolding pasted
 put_written area place e i n w = let k : 48 * i + 48 - 48 * i ≡ 48 = omega arith in rw (w, k, drop-drop 48 (48 * i) area, n)
 
--- ---- the borrower in a place: four bytes hold no more than the number read from them
+-- ---- the number in four bytes
 
-pub borrower-read : (area : List ℕ) (i r : ℕ) → length area ≡ 12288 → i < 256 → Below 256 area
-    → r ≡ value 8 (take (48 * i + 48 - (48 * i + 44)) (drop (48 * i + 44) area)) % 2 ^ 32 → r ≡ value 8 (take 4 (drop (48 * i + 44) area))
-borrower-read area i r l h b e =
-    let n : 48 * i + 48 - (48 * i + 44) ≡ 4 = omega arith in
-    let m : length (take 4 (drop (48 * i + 44) area)) ≡ 4 = length-take-le 4 (drop (48 * i + 44) area) (omega (arith, length-drop (48 * i + 44) area)) in
-    let w : value 8 (take 4 (drop (48 * i + 44) area)) < 2 ^ 32 =
-    rw m at (value-lt 8 (take 4 (drop (48 * i + 44) area)) (below-take 256 4 (drop (48 * i + 44) area) (below-drop 256 (48 * i + 44) area b))) in
-    e ∙ ap (λ (j : ℕ). value 8 (take j (drop (48 * i + 44) area)) % 2 ^ 32) n ∙ mod-eq_of_lt w
+pub number-read : (part : List ℕ) → length part ≡ 4 → from_be_bytes w32 part ≡ value 8 part
+unfolding value
+number-read (a ∷ b ∷ c ∷ d ∷ []) l = omega arith
+number-read [] l = absurd (omega (arith, l))
+number-read (a ∷ []) l = absurd (omega (arith, l))
+number-read (a ∷ b ∷ []) l = absurd (omega (arith, l))
+number-read (a ∷ b ∷ c ∷ []) l = absurd (omega (arith, l))
+number-read (a ∷ b ∷ c ∷ d ∷ e ∷ part) l = absurd (omega (arith, l))
+
+-- those of a borrower, in a place
+borrower-at : (bs : List ℕ) (i : ℕ) → take 4 (drop 44 (take (48 * i + 48 - 48 * i) (drop (48 * i) bs))) ≡ take 4 (drop (48 * i + 44) bs)
+borrower-at bs i =
+    let n : 48 * i + 48 - 48 * i ≡ 48 = omega arith in
+    rw (n, drop-take 44 48 (drop (48 * i) bs), drop-drop 44 (48 * i) bs, take-take 4 4 (drop (48 * i + 44) bs) (omega arith))
+
+pub borrower-last : (bs : List ℕ) (i : ℕ) (part : List ℕ) → length bs ≡ 12288 → i < 256
+    → IsWholeChunk (drop (length (take (48 * i + 48 - 48 * i) (drop (48 * i) bs)) - 4) (take (48 * i + 48 - 48 * i) (drop (48 * i) bs))) part 4
+    → part ≡ take 4 (drop (48 * i + 44) bs)
+borrower-last bs i part l h w =
+    let place : List ℕ = take (48 * i + 48 - 48 * i) (drop (48 * i) bs) in
+    let n : length place ≡ 48 = place-size bs i l h in
+    let k : length place - 4 ≡ 44 = omega (arith, n) in
+    w.same ∙ ap (λ (j : ℕ). drop j place) k ∙ sym (take_all 4 (drop 44 place) (omega (arith, n, length-drop 44 place))) ∙ borrower-at bs i

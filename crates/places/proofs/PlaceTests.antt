@@ -1,14 +1,16 @@
 -- The tests of a used place as branches make them, and of zeros as a loop does.
 use Prim.Native.Nat.{ℕ, zero, suc, ◌+◌, ◌-◌, ◌≤◌, ◌<◌}
 use mathlib.Core.Path.{◌≡◌, refl, sym, ◌∙◌, ap}
-use mathlib.Core.Bool.{Bool, true, false, ◌&&◌, and-false}
+use mathlib.Core.Bool.{Bool, true, false, cond, ◌&&◌, and-false}
 use mathlib.Core.List.{List}
 use native.Mathlib.Numerals.{add-one}
 use native.Mathlib.Omega.{arith}
 use lib.ListN.{length, get_or, take, drop, drop_of_length-le}
 use lib.Seq.{drop-cons, drop-drop}
-use lib.Dec.{eqb}
-use borrow.Author.Tests.{lt-ltb, le-ltb, eq-eqb, ne_eqb, le-leb, lt-leb}
+use lib.Dec.{eqb, ltb}
+use Rattle.std.proofs.Common.{Less, Equal, Greater}
+use Rattle.std.specs.Ordering.{nat_cmp, is_lt, ord_max}
+use borrow.Author.Tests.{ltb-true, ltb-false, lt-ltb, le-ltb, eq-eqb, ne_eqb, le-leb, lt-leb}
 use Rattle.iscc.specs.Digits.{all_below}
 use Rattle.iscc.proofs.Parts.{drop-take}
 use Rattle.loans.specs.Loan.{one_code}
@@ -26,20 +28,41 @@ zeros-none bs = record { within = omega arith; is = refl }
 
 module _ {bs : List ℕ} {i m : ℕ} (z : Zeros bs i m) (h : i < length bs) where
   -- a larger byte: it is not zero
-  pub zeros-new : m < get_or bs i 0 → Zeros bs (i + 1) (get_or bs i 0)
+  zeros-new : m < get_or bs i 0 → Zeros bs (i + 1) (get_or bs i 0)
   unfolding all_below
   zeros-new l =
       let f : all_below 1 (drop i bs) ≡ false = rw (drop-cons bs i 0 h, le-ltb (get_or bs i 0) 1 (omega arith)) in
       let g : false ≡ all_below 1 bs = sym (and-false (eqb m 0)) ∙ (rw f at z.is) in
       record { within = omega arith; is = rw (ne_eqb (get_or bs i 0) 0 (omega arith)) g }
 
-  pub zeros-kept : get_or bs i 0 ≤ m → Zeros bs (i + 1) m
+  zeros-kept : get_or bs i 0 ≤ m → Zeros bs (i + 1) m
   unfolding all_below
   zeros-kept l = record { within = omega arith; is = go m l z.is }
     where
       go : (m : ℕ) → get_or bs i 0 ≤ m → (eqb m 0 && all_below 1 (drop i bs)) ≡ all_below 1 bs → (eqb m 0 && all_below 1 (drop (i + 1) bs)) ≡ all_below 1 bs
       go zero l e = sym (rw (drop-cons bs i 0 h, lt-ltb (get_or bs i 0) 1 (omega arith), add-one) refl) ∙ e
       go (suc m) l e = let n : eqb (suc m) 0 ≡ false = ne_eqb (suc m) 0 (omega arith) in rw n (rw n at e)
+
+max-is : (a b : ℕ) → ord_max nat_cmp a b ≡ cond (ltb b a) a b
+max-is a b = go (ltb b a) (eqb b a)
+  where
+    go : (p q : Bool) → cond (is_lt (cond p Less (cond q Equal Greater))) a b ≡ cond p a b
+    go true q = refl
+    go false true = refl
+    go false false = refl
+
+pub zeros-next : {bs : List ℕ} {i m r : ℕ} → Zeros bs i m → i < length bs → r ≡ ord_max nat_cmp m (get_or bs i 0) → Zeros bs (i + 1) r
+zeros-next {bs} {i} {m} {r} z h e = go (ltb (get_or bs i 0) m) (ltb m (get_or bs i 0)) refl refl
+  where
+    at-most : (p : Bool) → ltb (get_or bs i 0) m ≡ p → r ≡ cond p m (get_or bs i 0)
+    at-most p w = e ∙ max-is m (get_or bs i 0) ∙ ap (λ (q : Bool). cond q m (get_or bs i 0)) w
+
+    go : (p q : Bool) → ltb (get_or bs i 0) m ≡ p → ltb m (get_or bs i 0) ≡ q → Zeros bs (i + 1) r
+    go true q w v = rw (at-most true w) (zeros-kept z h (omega (arith, ltb-true (get_or bs i 0) m w)))
+    go false true w v = rw (at-most false w) (zeros-new z h (ltb-true m (get_or bs i 0) v))
+    go false false w v =
+        let k : get_or bs i 0 ≡ m = omega (arith, ltb-false (get_or bs i 0) m w, ltb-false m (get_or bs i 0) v) in
+        rw (at-most false w, k) (zeros-kept z h (omega (arith, k)))
 
 pub zeros-all : {bs : List ℕ} {i m : ℕ} → Zeros bs i m → length bs ≤ i → eqb m 0 ≡ all_below 1 bs
 unfolding all_below

@@ -1,9 +1,10 @@
 // A code as it stands in a register and in a log.
-ghost use Rattle.std.specs.Prelude.{◌≡◌, true, ◌<◌};
+ghost use Rattle.std.specs.Prelude.{◌≡◌, true};
+ghost use Rattle.iscc.specs.Permitted.{number};
 ghost use Rattle.loans.specs.Loan.{one_code};
 ghost use Rattle.loans.specs.Counts.{code_type};
 
-use crate::place::widen;
+use iscc::main_type::MainType;
 
 // Whether the bytes are exactly one permitted unit or composite.
 pub fn is_code(bytes: &[u8]) -> bool
@@ -12,10 +13,10 @@ pub fn is_code(bytes: &[u8]) -> bool
     unit::one::is_one(bytes)
 }
 
-// The number of a code's main type: its first four bits.
-pub fn main_type(code: &[u8]) -> usize
+// A code's main type: its first four bits.
+pub fn main_type(code: &[u8]) -> MainType
     requires { one_code code.now ≡ true }
-    ensures { (result ≡ code_type code.now) × (result < 7) }
+    ensures { number result ≡ code_type code.now }
 {
-    widen(code[0]) / 16
+    MainType::try_from(u32::from(code[0]) / 16).unwrap()
 }

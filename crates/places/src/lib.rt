@@ -5,5 +5,6 @@ pub mod code;
 pub mod counts;
 pub mod moves;
 pub mod order;
+pub mod ordered;
 pub mod place;
 pub mod search;

@@ -7,8 +7,7 @@ ghost use Rattle.probe.specs.Representation.{fields_as};
 ghost use Rattle.header.specs.Representation.{header_read_as, header_fields, no_fields};
 
 use header::Header;
-use header::reader::HeaderRead;
-use iscc::written::Outcome;
+use iscc::outcome::Outcome;
 
 // The four numbers of a header and the bytes used. A refusal has zero for every other number.
 #[repr(C)]
@@ -42,8 +41,8 @@ pub extern "C" fn probe_header_read(bytes: &[u8]) -> Fields
 {
     let answer = header::reader::read(bytes);
     match answer {
-        HeaderRead::Refused(q) => refused(q.number),
-        HeaderRead::Header(raw) => {
+        Err(q) => refused(q.number()),
+        Ok(raw) => {
             let h = raw.header;
             Fields {
                 number: 0,
@@ -74,6 +73,5 @@ pub extern "C" fn probe_header_write(
         version,
         length_number,
     };
-    let answer = header::writer::write(h, out);
-    answer.outcome()
+    Outcome::from(header::writer::write(h, out))
 }

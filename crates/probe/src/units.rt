@@ -8,9 +8,9 @@ ghost use Rattle.probe.specs.Representation.{fields_as};
 ghost use Rattle.unit.specs.Representation.{unit_read_as, unit_fields};
 
 use crate::headers::Fields;
-use iscc::main_type::{MainType, Named};
-use iscc::written::Outcome;
-use unit::reader::UnitRead;
+use iscc::main_type::MainType;
+use iscc::outcome::Outcome;
+use iscc::refusal::Refusal;
 
 #[unsafe(no_mangle)]
 pub extern "C" fn probe_unit_read(bytes: &[u8]) -> Fields
@@ -18,8 +18,8 @@ pub extern "C" fn probe_unit_read(bytes: &[u8]) -> Fields
 {
     let answer = unit::reader::read(bytes);
     match answer {
-        UnitRead::Refused(q) => crate::headers::refused(q.number),
-        UnitRead::Unit(u) => Fields {
+        Err(q) => crate::headers::refused(q.number()),
+        Ok(u) => Fields {
             number: 0,
             main_type: u.main_type.number(),
             subtype: u.subtype,
@@ -31,6 +31,21 @@ pub extern "C" fn probe_unit_read(bytes: &[u8]) -> Fields
 }
 
 // A number that names no main type is refused as the unit writer refuses a header (8).
+fn write_by_number(
+    main_type: u32,
+    subtype: u32,
+    version: u32,
+    length_number: u32,
+    body: &[u8],
+    out: &mut [u8],
+) -> Result<usize, Refusal>
+    ensures answer { result ≡ written_as (write_unit (header_with_numbers main_type subtype version length_number) body.now (length out.old)) }
+    ensures area { out.new ≡ area_after (write_unit (header_with_numbers main_type subtype version length_number) body.now (length out.old)) out.old }
+{
+    let main_type = MainType::try_from(main_type)?;
+    unit::writer::write(main_type, subtype, version, length_number, body, out)
+}
+
 #[unsafe(no_mangle)]
 pub extern "C" fn probe_unit_write(
     main_type: u32,
@@ -43,15 +58,5 @@ pub extern "C" fn probe_unit_write(
     ensures answer { result ≡ outcome_as (written_as (write_unit (header_with_numbers main_type subtype version length_number) body.now (length out.old))) }
     ensures area { out.new ≡ area_after (write_unit (header_with_numbers main_type subtype version length_number) body.now (length out.old)) out.old }
 {
-    let named = MainType::from_number(main_type);
-    match named {
-        Named::Refused(q) => Outcome {
-            number: q.number,
-            length: 0,
-        },
-        Named::MainType(m) => {
-            let answer = unit::writer::write(m, subtype, version, length_number, body, out);
-            answer.outcome()
-        }
-    }
+    Outcome::from(write_by_number(main_type, subtype, version, length_number, body, out))
 }

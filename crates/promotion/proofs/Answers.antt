@@ -1,9 +1,7 @@
--- The checker's answers: a code that is copied, or none.
+-- The checker's answers: a code that is copied, and what they tell.
 use Prim.Native.Nat.{ℕ, ◌-◌}
 use mathlib.Core.Path.{◌≡◌, refl, sym, ◌∙◌, ap, subst}
-use mathlib.Core.Bool.{true}
-use mathlib.Core.Option.{some}
-use mathlib.Core.List.{List, [], ◌++◌}
+use mathlib.Core.List.{List, ◌++◌}
 use native.Mathlib.Omega.{arith}
 use lib.ListN.{length, take, drop, replicate}
 use lib.Seq.{take-append_seam}
@@ -15,18 +13,14 @@ use Rattle.iscc.proofs.Codes.{code-value}
 use Rattle.loans.specs.Promotion as verdicts
 use Rattle.loans.specs.Promotion.{granted, refused, refused_at, refused_for}
 use Rattle.loans.specs.PromotionOrder.{verdict_answer}
-use Rattle.promotion.specs.declared.answer.Promotion.{Promotion}
-use Rattle.promotion.specs.declared.difference.Difference.{Difference}
-use Rattle.promotion.specs.Representation.{difference_as, code_told, offset_told, promotion_as, promotion_number, promotion_offset, promotion_code}
+use Rattle.promotion.specs.Representation.{Promotion, code_told, offset_told, promotion_as, promotion_number, promotion_offset, promotion_code}
 
 -- a code copied over zeros
 pub copied : (c held front : List ℕ) → c ≡ held → front ≡ c
-    → ◌≡◌ {A = Difference} (record { found = true; code = record { bytes = front ++ drop (length c - 0) (replicate 42 0); length = length c } })
-    (difference_as (some held))
+    → ◌≡◌ {A = Code} (record { bytes = front ++ drop (length c - 0) (replicate 42 0); length = length c }) (code_as held)
 copied c held front e f =
     let k : length c - 0 ≡ length c = omega arith in
-    let v = code-value c (front ++ drop (length c - 0) (replicate 42 0)) (length c) (rw (f, k)) refl ∙ ap code_as e in
-    ap (λ (x : Code). record { found = true; code = x }) v
+    code-value c (front ++ drop (length c - 0) (replicate 42 0)) (length c) (rw (f, k)) refl ∙ ap code_as e
 
 -- ---- number, offset and code are told by the answer
 
@@ -36,9 +30,9 @@ code-front c = take-append_seam c _
 
 told : (v : verdicts.Verdict)
     → (promotion_number (promotion_as v) ≡ number_of (verdict_answer v)) × (promotion_offset (promotion_as v) ≡ offset_told v) × (promotion_code (promotion_as v) ≡ code_told v)
-told granted = (refl, refl, code-front [])
-told (refused q) = (refl, refl, code-front [])
-told (refused_at q offset) = (refl, refl, code-front [])
+told granted = (refl, refl, refl)
+told (refused q) = (refl, refl, refl)
+told (refused_at q offset) = (refl, refl, refl)
 told (refused_for q c) = (refl, refl, code-front c)
 
 pub all_told-is : (v : verdicts.Verdict) (p : Promotion) → p ≡ promotion_as v

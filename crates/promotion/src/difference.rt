@@ -1,126 +1,77 @@
 // The least difference of two registers. Both have their loans in rising order, so that one pass over both meets it first.
-ghost use Rattle.std.specs.Prelude.{◌≡◌, true, cond, ◌≤◌, ◌<◌, length, eqb};
-ghost use Rattle.std.proofs.Math.Option.{none, some};
-ghost use Rattle.loans.specs.Order.{are_ordered, loans_at};
+ghost use Rattle.std.specs.Prelude.{◌≡◌, ◌<◌, length};
+ghost use Rattle.iscc.specs.Representation.{code_as};
+ghost use Rattle.loans.specs.Order.{loans_at};
 ghost use Rattle.loans.specs.Halving.{loan_in};
 ghost use Rattle.loans.specs.Numbered.{loans_of};
-ghost use Rattle.loans.specs.Contents.{is_register, contents_of};
+ghost use Rattle.loans.specs.Contents.{contents_of};
 ghost use Rattle.loans.specs.Promotion.{difference};
-ghost use Rattle.promotion.specs.Representation.{side_as, difference_as};
-ghost use Rattle.promotion.specs.declared.difference.Side.TheVariants.{Neither, First};
+ghost use Rattle.promotion.specs.Representation.{difference_as, loans_difference};
 
-use iscc::code;
 use iscc::code::{Code, LONGEST_CODE};
-use loans::layout::{COUNTS_LENGTH, LAST_NUMBER_OFFSET};
-use octets::compare::Order;
-use places::place;
-use places::search::look;
-use register::count;
-
-// Whether there is one, and its code.
-#[derive(Clone, Copy)]
-pub(crate) struct Difference {
-    pub(crate) found: bool,
-    pub(crate) code: Code,
-}
-
-// Which of two loans has the lesser code that differs; none where they are the same.
-#[derive(Clone, Copy)]
-enum Side {
-    Neither,
-    First,
-    Second,
-}
-
-// Two loans of one code, by their borrowers.
-fn by_borrower(a: u32, b: u32) -> Side
-    ensures { result ≡ cond (eqb a b) Neither First }
-{
-    if a == b {
-        return Side::Neither;
-    }
-    Side::First
-}
-
-// The loans in one place of two registers.
-fn side_of(first: &[u8], second: &[u8], i: usize) -> Side
-    requires { (length first.now ≡ 12288) × (are_ordered first.now ≡ true) × (i < length (loans_at first.now)) × (length second.now ≡ 12288) × (are_ordered second.now ≡ true) × (i < length (loans_at second.now)) × (i < 256) }
-    ensures { result ≡ side_as (loan_in (loans_at first.now) i) (loan_in (loans_at second.now) i) }
-{
-    let order = look(second, i, place::code(first, i));
-    match order {
-        Order::Before => Side::First,
-        Order::Same => by_borrower(place::borrower(first, i), place::borrower(second, i)),
-        Order::Behind => Side::Second,
-    }
-}
+use places::ordered::Places;
+use register::area::Register;
+use std::cmp::Ordering;
 
 // The code in a place, by value.
-fn found(places: &[u8], i: usize) -> Difference
-    requires { (length places.now ≡ 12288) × (are_ordered places.now ≡ true) × (i < length (loans_at places.now)) × (i < 256) }
-    ensures { result ≡ difference_as (some (loan_in (loans_at places.now) i).code) }
+fn code_in(places: Places, i: usize) -> Code
+    requires { i < length (loans_at places.bytes.now) }
+    ensures { result ≡ code_as (loan_in (loans_at places.entry.bytes.now) i).code }
 {
-    let code = place::code(places, i);
+    let code = places.code(i);
     let mut bytes = [0u8; LONGEST_CODE];
     let length = code.len();
     bytes[0..length].copy_from_slice(code);
-    Difference {
-        found: true,
-        code: Code {
-            bytes: bytes,
-            length: length,
-        },
+    Code {
+        bytes: bytes,
+        length: length,
     }
 }
 
-fn nothing() -> Difference
-    ensures { result ≡ difference_as none }
+// Of the loans in one place of two registers, the lesser code that differs.
+fn in_place(first: Places, second: Places, i: usize) -> Option<Code>
+    requires { (i < length (loans_at first.bytes.now)) × (i < length (loans_at second.bytes.now)) }
+    ensures { result ≡ difference_as (loans_difference (loan_in (loans_at first.entry.bytes.now) i) (loan_in (loans_at second.entry.bytes.now) i)) }
 {
-    Difference {
-        found: false,
-        code: code::none(),
+    match second.look(i, first.code(i)) {
+        Ordering::Less => Some(code_in(first, i)),
+        Ordering::Equal => {
+            if first.borrower(i) == second.borrower(i) {
+                return None;
+            }
+            Some(code_in(first, i))
+        }
+        Ordering::Greater => Some(code_in(second, i)),
     }
 }
 
 // Place by place, as long as both have the same loan there. The first has n codes out, the second m.
-fn walk(first: &[u8], n: usize, second: &[u8], m: usize) -> Difference
-    requires { (length first.now ≡ 12288) × (are_ordered first.now ≡ true) × (n ≡ length (loans_at first.now)) × (n ≤ 256) × (length second.now ≡ 12288) × (are_ordered second.now ≡ true) × (m ≡ length (loans_at second.now)) × (m ≤ 256) }
-    ensures { result ≡ difference_as (difference (loans_at first.now) (loans_at second.now)) }
+fn walk(first: Places, n: usize, second: Places, m: usize) -> Option<Code>
+    requires { (n ≡ length (loans_at first.bytes.now)) × (m ≡ length (loans_at second.bytes.now)) }
+    ensures { result ≡ difference_as (difference (loans_at first.entry.bytes.now) (loans_at second.entry.bytes.now)) }
 {
-    let mut i: usize = 0;
-    while i < n {
-        if m <= i {
-            return found(first, i);
-        }
-        let side = side_of(first, second, i);
-        match side {
-            Side::Neither => {
-                i += 1;
-            }
-            Side::First => {
-                return found(first, i);
-            }
-            Side::Second => {
-                return found(second, i);
-            }
+    for i in 0..n.min(m) {
+        let least = in_place(first, second, i);
+        if least.is_some() {
+            return least;
         }
     }
-    if i < m {
-        return found(second, i);
+    if m < n {
+        return Some(code_in(first, m));
     }
-    nothing()
+    if n < m {
+        return Some(code_in(second, n));
+    }
+    None
 }
 
-pub(crate) fn least(first: &[u8], second: &[u8]) -> Difference
-    requires { (is_register first.now ≡ true) × (is_register second.now ≡ true) }
-    ensures { result ≡ difference_as (difference (loans_of (contents_of first.now)) (loans_of (contents_of second.now))) }
+pub(crate) fn least(first: Register, second: Register) -> Option<Code>
+    ensures { result ≡ difference_as (difference (loans_of (contents_of first.entry.area.now)) (loans_of (contents_of second.entry.area.now))) }
 {
-    let n = count::codes_out(first);
-    let m = count::codes_out(second);
     walk(
-        &first[COUNTS_LENGTH..LAST_NUMBER_OFFSET],
-        n,
-        &second[COUNTS_LENGTH..LAST_NUMBER_OFFSET],
-        m,
+        first.places(),
+        first.codes_out(),
+        second.places(),
+        second.codes_out(),
     )
 }

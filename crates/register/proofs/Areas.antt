@@ -1,14 +1,16 @@
 -- The test of an area by its branches, its counts and its last number, and its three parts written.
-use Prim.Native.Nat.{ℕ, suc, ◌+◌, ◌*◌, ◌%◌, ◌^◌, ◌≤◌, ◌<◌}
-use mathlib.Core.Path.{◌≡◌, sym, ◌∙◌, ap, ap₂, subst}
+use Prim.Native.Nat.{ℕ, suc, ◌+◌, ◌-◌, ◌*◌, ◌%◌, ◌^◌, ◌≤◌, ◌<◌}
+use mathlib.Core.Path.{◌≡◌, refl, sym, ◌∙◌, ap, ap₂, subst}
 use mathlib.Core.Bool.{Bool, true, false, ◌&&◌}
 use mathlib.Core.Option.{some}
+use Rattle.std.specs.Prelude.{Option, Some, None, SomeIff, Ok, Err}
 use mathlib.Core.List.{List, [], ◌++◌, append-nil, append_assoc}
 use native.Mathlib.Nat.{mod-eq_of_lt}
 use native.Mathlib.Omega.{arith}
 use lib.ListN.{length, get_or, take, drop, length-append, length-drop, drop_of_length-le}
 use lib.Seq.{take_at, drop_at, take_all, drop-drop, length-take-le}
 use borrow.Author.Tests.{eq-eqb, ne_eqb, lt-ltb, le-ltb}
+use Rattle.std.specs.Array.{IsWholeChunk}
 use Rattle.iscc.specs.Refusals.{not_register}
 use Rattle.iscc.specs.Answer.{accept, refuse}
 use Rattle.iscc.specs.Lists.{same_bytes}
@@ -25,7 +27,7 @@ use Rattle.loans.proofs.CodesOut.{front-true}
 use Rattle.loans.proofs.Contents.{register-known, register-sound}
 use Rattle.register.specs.declared.answer.Counts.{Counts}
 use Rattle.register.specs.Next.{next_number}
-use Rattle.register.specs.Representation.{counts_as}
+use Rattle.register.specs.Representation.{counts_of, counts_as}
 
 -- ---- 23
 
@@ -33,19 +35,10 @@ pub register-length : (area : List ℕ) → (length area ≡ 12308 → ⊥) → 
 unfolding is_register
 register-length area h = rw (ne_eqb (length area) 12308 h)
 
-pub register-is : (area : List ℕ) → length area ≡ 12308 → (r : Bool)
-    → r ≡ are_ordered (places_part area) && same_bytes (counts_part area) (counts_bytes (loans_at (places_part area))) → r ≡ is_register area
+pub register-is : (area counts : List ℕ) → length area ≡ 12308 → counts ≡ counts_part area → (r : Bool)
+    → r ≡ are_ordered (places_part area) && same_bytes counts (counts_bytes (loans_at (places_part area))) → r ≡ is_register area
 unfolding is_register
-register-is area h r e = e ∙ rw (eq-eqb (length area) 12308 h)
-
-pub whole-fits : (area : List ℕ) → is_register area ≡ true → 12308 ≤ length area
-whole-fits area v = omega (arith, (register-known area v).size)
-
-pub area-fits : (area : List ℕ) → is_register area ≡ true → 12304 ≤ length area
-area-fits area v = omega (arith, (register-known area v).size)
-
-pub front_fits : (area : List ℕ) → is_register area ≡ true → 16 ≤ length area
-front_fits area v = omega (arith, (register-known area v).size)
+register-is area counts h w r e = e ∙ rw (eq-eqb (length area) 12308 h, w)
 
 -- ---- the numbers in front
 
@@ -58,33 +51,31 @@ module _ (area : List ℕ) where
 
 -- ---- the last number
 
-pub next-none : (l n : ℕ) → n ≡ l → n ≡ 4294967295 → 0 ≡ next_number l
+pub number-behind : (area part : List ℕ) → length area ≡ 12308 → IsWholeChunk (drop (length area - 4) area) part 4 → part ≡ number_part area
+number-behind area part l w =
+    let k : length area - 4 ≡ 12304 = omega (arith, l) in
+    w.same ∙ ap (λ (j : ℕ). drop j area) k ∙ sym (take_all 4 (drop 12304 area) (omega (arith, l, length-drop 12304 area)))
+
+not-lt : (a b : ℕ) → (a < b → ⊥) → b ≤ a
+not-lt a b h = omega arith
+
+pub next-is : (l n : ℕ) (r : Option ℕ) → n ≡ l → SomeIff r (n + 1 < 4294967296) (n + 1) → r ≡ next_number l
 unfolding next_number
-next-none l n e h = sym (rw (le-ltb l 4294967295 (omega (arith, e, h))))
+next-is l n None e h = sym (rw (le-ltb l 4294967295 (omega (arith, e, not-lt (n + 1) 4294967296 h))))
+next-is l n (Some k) e h =
+    let w : k ≡ suc l = omega (arith, e, h.1) in
+    rw (lt-ltb l 4294967295 (omega (arith, e, h.0)), w)
 
-pub next-some : (area : List ℕ) → Below 256 area → is_register area ≡ true → (n : ℕ) → n ≡ (contents_of area).last → (n ≡ 4294967295 → ⊥) → n + 1 ≡ next_number (contents_of area).last
-unfolding next_number
-next-some area k v n e w = rw (lt-ltb (contents_of area).last 4294967295 (omega (arith, (register-sound.good area k v).last, e, w))) (omega (arith, e))
+-- ---- the counts, where the area is a register, and where it is not
 
-pub last-there : (area : List ℕ) → Below 256 area → is_register area ≡ true → (r : ℕ) → r ≡ value 8 (take 4 (drop 12304 area)) % 2 ^ 32 → r ≡ (contents_of area).last
-last-there area k v r e = e ∙ mod-eq_of_lt (register-sound.good area k v).last
-
--- ---- the eight in their struct
-
-pub all_there : (ns : List ℕ) (a b c d e f g h : ℕ) → a ≡ get_or ns 0 0 → b ≡ get_or ns 1 0 → c ≡ get_or ns 2 0 → d ≡ get_or ns 3 0
-    → e ≡ get_or ns 4 0 → f ≡ get_or ns 5 0 → g ≡ get_or ns 6 0 → h ≡ get_or ns 7 0
-    → record { number = 0; out = a; meta = b; semantic = c; content = d; «data» = e; instance = f; iscc = g; id = h } ≡ counts_as (accept ns)
-all_there ns a b c d e f g h p q r s t u v w = rw (p, q, r, s, t, u, v, w)
-
--- the answer where the area is a register, and where it is not
-module _ (area : List ℕ) (b : Bool) (tested : b ≡ is_register area) where
-  pub counts-yes : b ≡ true → (r : Counts) → r ≡ counts_as (accept (counts (contents_of area).loans)) → r ≡ counts_as (counts_asked area)
+module _ (area : List ℕ) where
+  pub counts-yes : is_register area ≡ true → (r : Counts) → r ≡ counts_of (counts (contents_of area).loans) → Ok r ≡ counts_as (counts_asked area)
   unfolding counts_asked
-  counts-yes y r e = let v : is_register area ≡ true = sym tested ∙ y in e ∙ sym (rw v)
+  counts-yes v r e = ap Ok e ∙ sym (rw v)
 
-  pub counts-no : b ≡ false → counts_as (refuse not_register) ≡ counts_as (counts_asked area)
+  pub counts-no : is_register area ≡ false → Err not_register ≡ counts_as (counts_asked area)
   unfolding counts_asked
-  counts-no f = let v : is_register area ≡ false = sym tested ∙ f in rw v
+  counts-no v = rw v
 
 -- ---- the places written, then the counts
 

@@ -2,3 +2,4 @@
 pub mod Areas
 pub mod Changes
 pub mod Texts
+pub mod Told

@@ -1,4 +1,6 @@
 -- The calls by text: what they come to where the text has a code, and where it has none.
+use Rattle.iscc.specs.Detailed.{with_detail}
+use Rattle.std.specs.Prelude.{Ok, Err}
 use Prim.Native.Nat.{ℕ, ◌-◌, ◌≤◌}
 use mathlib.Core.Path.{◌≡◌, refl, sym, ◌∙◌, ap, subst}
 use mathlib.Core.Bool.{Bool, true, false}
@@ -8,8 +10,9 @@ use Rattle.iscc.specs.Refusals.{Refusal, not_register}
 use Rattle.iscc.specs.Answer.{Answer, accept, refuse, ◌>>=◌, ◌>>◌, ◌otherwise◌, number_of}
 use Rattle.iscc.specs.Doors.{code_bytes}
 use Rattle.iscc.specs.Representation.{code_read_as}
-use Rattle.iscc.specs.declared.code.CodeRead.{CodeRead}
-use Rattle.iscc.specs.declared.code.CodeAnswer.TheVariants as coded
+use Rattle.iscc.specs.Representation.{CodeRead}
+use Rattle.iscc.specs.declared.code.Code.{Code}
+use Rattle.iscc.specs.declared.refusal.DetailedRefusal.{DetailedRefusal}
 use Rattle.iscc.proofs.Answer.{passed, answered, accept-inj, refuse-inj, never}
 use Rattle.door.specs.Codes.{code_detail}
 use Rattle.door.proofs.Answers.{code-held, code-not}
@@ -21,10 +24,8 @@ use Rattle.loans.specs.Register.{changed_area, asked_area}
 use Rattle.loans.specs.Contents.{is_register, contents_of, register, reported, issue_text, return_text, number_taken, ask_text, looks_text}
 use Rattle.loans.specs.Halving.{looks}
 use Rattle.loans.proofs.OrderPromises.{register-in-order}
-use Rattle.register.specs.declared.answer.Changed.{Changed}
-use Rattle.register.specs.declared.answer.Changed.TheVariants as changes
+use Rattle.register.specs.Representation.{Changed}
 use Rattle.register.specs.declared.answer.Asked.{Asked}
-use Rattle.register.specs.declared.answer.Holder.TheVariants as holders
 use Rattle.register.specs.Representation.{holder_as, asked_as, holder_number, holder_borrower, borrower_in, changed_as, changed_number, changed_record}
 use Rattle.register.specs.Admitted.{admitted, admitted_detail}
 use Rattle.register.proofs.Changes.{Told}
@@ -33,8 +34,8 @@ use Rattle.register.proofs.Changes.{Told}
 same-told : (x x' : Answer (List ℕ)) (area : List ℕ) (y : Changed) (d : List ℕ) → x ≡ x' → Told x' area y d → Told x area y d
 same-told x x' area y d e t = subst (λ (z : Answer (List ℕ)). Told z area y d) (sym e) t
 
-told-refusal : (x : Answer (List ℕ)) (area : List ℕ) (q : Refusal) → x ≡ refuse q → Told x area (changes.Refused q) area
-told-refusal x area q e = same-told x (refuse q) area (changes.Refused q) area e (refl, refl)
+told-refusal : (x : Answer (List ℕ)) (area : List ℕ) (q : Refusal) → x ≡ refuse q → Told x area (Err q) area
+told-refusal x area q e = same-told x (refuse q) area (Err q) area e (refl, refl)
 
 -- ---- with the numbers of the answers
 
@@ -88,22 +89,22 @@ admitted-refused t area q f h e = go (code_bytes t) (is_register area) refl e
     go (accept c) false v e = h c v ∙ ap refuse (refuse-inj e)
 
 -- the call's three ways: no code, a code but no register, both
-module _ (t area : List ℕ) (r : CodeRead) (of : r ≡ code_read_as (code_detail t) (code_bytes t)) where
-  pub not-read : (q : Refusal) (p : ℕ) → r.answer ≡ coded.Refused q p → r ≡ code_read_as (admitted_detail t) (admitted t area)
+module _ (t area : List ℕ) {r : CodeRead} (of : r ≡ code_read_as (code_detail t) (code_bytes t)) where
+  pub not-read : (f : DetailedRefusal) → r ≡ Err f → ◌≡◌ {A = CodeRead} (Err f) (code_read_as (admitted_detail t) (admitted t area))
   unfolding admitted admitted_detail
-  not-read q p e = let o : code_bytes t ≡ refuse q = code-not (code_detail t) (code_bytes t) r q p of e in of ∙ rw o
+  not-read f e = let o : code_bytes t ≡ refuse f.refusal = code-not (code_detail t) (code_bytes t) f (sym e ∙ of) in sym e ∙ of ∙ rw o
 
-  module _ (found : r.answer ≡ coded.Accepted) (b : Bool) (tested : b ≡ is_register area) where
-    is_code : code_bytes t ≡ accept (take (r.code.length - 0) r.code.bytes)
-    is_code = (code-held (code_detail t) (code_bytes t) r of found).0
+  module _ (c : Code) (found : r ≡ Ok c) (b : Bool) (tested : b ≡ is_register area) where
+    is_code : code_bytes t ≡ accept (take (c.length - 0) c.bytes)
+    is_code = (code-held (code_detail t) (code_bytes t) c (sym found ∙ of)).0
 
     pub not_register-is : b ≡ false → (s : CodeRead) → s ≡ code_read_as 0 (refuse not_register) → s ≡ code_read_as (admitted_detail t) (admitted t area)
     unfolding admitted admitted_detail
     not_register-is n s e = let o : is_register area ≡ false = sym tested ∙ n in e ∙ rw (is_code, o)
 
-    pub both-there : b ≡ true → r ≡ code_read_as (admitted_detail t) (admitted t area)
+    pub both-there : b ≡ true → ◌≡◌ {A = CodeRead} (Ok c) (code_read_as (admitted_detail t) (admitted t area))
     unfolding admitted admitted_detail
-    both-there y = let o : is_register area ≡ true = sym tested ∙ y in of ∙ rw (is_code, o)
+    both-there y = let o : is_register area ≡ true = sym tested ∙ y in sym found ∙ of ∙ rw (is_code, o)
 
 changed-not : (ch : Change) (area : List ℕ) → is_register area ≡ false → changed_area register ch area ≡ refuse not_register
 unfolding changed_area
@@ -118,39 +119,42 @@ looks-not c area v = rw v
 
 -- ---- the calls
 
-module _ (t area : List ℕ) (k : ℕ) (r : CodeRead) (of : r ≡ code_read_as k (admitted t area)) where
-  module _ (q : Refusal) (p : ℕ) (e : r.answer ≡ coded.Refused q p) where
-    refused : {A : Type 0} (f : List ℕ → Answer A) → ((c : List ℕ) → is_register area ≡ false → f c ≡ refuse not_register) → (code_bytes t >>= f) ≡ refuse q
-    refused f h = admitted-refused t area q f h (code-not k (admitted t area) r q p of e)
+module _ (t area : List ℕ) (k : ℕ) {r : CodeRead} (of : r ≡ code_read_as k (admitted t area)) where
+  module _ (f : DetailedRefusal) (e : r ≡ Err f) where
+    abbrev q : Refusal
+    q = f.refusal
 
-    pub issue-refused : (b : ℕ) → ToldBy (issue_text t b area) area (changes.Refused q) area
+    refused : {A : Type 0} (g : List ℕ → Answer A) → ((c : List ℕ) → is_register area ≡ false → g c ≡ refuse not_register) → (code_bytes t >>= g) ≡ refuse q
+    refused g h = admitted-refused t area q g h (code-not k (admitted t area) f (sym e ∙ of))
+
+    pub issue-refused : (b : ℕ) → ToldBy (issue_text t b area) area (Err q) area
     unfolding issued
     issue-refused b =
-        by-text (issue_text t b area) area (changes.Refused q) area
+        by-text (issue_text t b area) area (Err q) area
         (told-refusal (issue_text t b area) area q (refused (λ c. changed_area register (issue_code c b) area) (λ c. changed-not (issue_code c b) area)))
 
-    pub return_refused : ToldBy (return_text t area) area (changes.Refused q) area
+    pub return_refused : ToldBy (return_text t area) area (Err q) area
     unfolding returned
     return_refused =
-        by-text (return_text t area) area (changes.Refused q) area
+        by-text (return_text t area) area (Err q) area
         (told-refusal (return_text t area) area q (refused (λ c. changed_area register (return_code c) area) (λ c. changed-not (return_code c) area)))
 
-    pub ask-refused : AskTold t area (record { holder = holders.Refused q; looks = 0 })
+    pub ask-refused : AskTold t area (record { holder = Err q; looks = 0 })
     unfolding borrower_of looks_text
     ask-refused =
         let x : ask_text t area ≡ refuse q = refused (λ c. asked_area register c area) (λ c. asked-not c area) in
         let l : looks_text t area ≡ 0 = ap reported (refused (λ c. is_register area otherwise not_register >> accept (looks c (contents_of area).loans)) (λ c. looks-not c area)) in
-        ask-by-text t area (record { holder = holders.Refused q; looks = 0 }) (sym (rw (x, l) refl))
+        ask-by-text t area (record { holder = Err q; looks = 0 }) (sym (rw (x, l) refl))
 
-  module _ (found : r.answer ≡ coded.Accepted) where
+  module _ (x : Code) (found : r ≡ Ok x) where
     abbrev code : List ℕ
-    code = take (r.code.length - 0) r.code.bytes
+    code = take (x.length - 0) x.bytes
 
     bound : (code_bytes t ≡ accept code) × (is_register area ≡ true)
-    bound = admitted-bound t area code (code-held k (admitted t area) r of found).0
+    bound = admitted-bound t area code (code-held k (admitted t area) x (sym found ∙ of)).0
 
-    pub code_fits : r.code.length ≤ length r.code.bytes
-    code_fits = (code-held k (admitted t area) r of found).1
+    pub code_fits : x.length ≤ length x.bytes
+    code_fits = (code-held k (admitted t area) x (sym found ∙ of)).1
 
     pub is-register : is_register area ≡ true
     is-register = bound.1
@@ -159,7 +163,7 @@ module _ (t area : List ℕ) (k : ℕ) (r : CodeRead) (of : r ≡ code_read_as k
     one_code-is = (code_in t code bound.0).one
 
     by_code : {A : Type 0} (f : List ℕ → Answer A) → (code_bytes t >>= f) ≡ f code
-    by_code f = ap (λ (x : Answer (List ℕ)). x >>= f) bound.0
+    by_code f = ap (λ (y : Answer (List ℕ)). y >>= f) bound.0
 
     pub issue-told : (b : ℕ) (y : Changed) (d : List ℕ) → Told (changed_area register (issue_code code b) area) area y d → ToldBy (issue_text t b area) area y d
     unfolding issued
@@ -176,7 +180,7 @@ module _ (t area : List ℕ) (k : ℕ) (r : CodeRead) (of : r ≡ code_read_as k
     pub ask-told : (y : Asked) → y ≡ asked_as (asked_area register code area) (looks code (contents_of area).loans) → AskTold t area y
     unfolding borrower_of looks_text
     ask-told y w =
-        let x : ask_text t area ≡ asked_area register code area = by_code (λ c. asked_area register c area) in
+        let a : ask_text t area ≡ asked_area register code area = by_code (λ c. asked_area register c area) in
         let l : looks_text t area ≡ looks code (contents_of area).loans =
         ap reported (by_code (λ c. is_register area otherwise not_register >> accept (looks c (contents_of area).loans))) ∙ rw is-register in
-        ask-by-text t area y (w ∙ sym (rw (x, l) refl))
+        ask-by-text t area y (w ∙ sym (rw (a, l) refl))

@@ -1,33 +1,17 @@
-// What the calls answer. Their numbers by the specification: `changed_number`, `changed_record` and `holder_number` of
-// specs/Representation.antt.
+// What the calls answer beside a record number or a refusal. Their numbers by the specification: `changed_number`, `changed_record` and
+// `holder_number` of specs/Representation.antt.
 use iscc::refusal::Refusal;
 
-// An issue or a return: done, with the record number that it took, or why it was not.
-#[derive(Clone, Copy)]
-pub enum Changed {
-    Done(u32),
-    Refused(Refusal),
-}
-
-// Who has a code, or why that is not told.
-#[derive(Clone, Copy)]
-pub enum Holder {
-    Borrower(u32),
-    Refused(Refusal),
-}
-
-// What a question answers. The looks are told where the code is out and where it is not, and are 0 with every other refusal.
+// Who has a code, or why that is not told. The looks are told where the code is out and where it is not, and are 0 with every other refusal.
 #[derive(Clone, Copy)]
 pub struct Asked {
-    pub holder: Holder,
+    pub holder: Result<u32, Refusal>,
     pub looks: u32,
 }
 
-// How many codes are out, in all and by main type, with number 0; or a refusal and zeros. It is what C gets, too.
-#[repr(C)]
+// How many codes are out, in all and by main type.
 #[derive(Clone, Copy)]
 pub struct Counts {
-    pub number: u32,
     pub out: u32,
     pub meta: u32,
     pub semantic: u32,

@@ -12,7 +12,7 @@ pub fn is_register(area: &[u8]) -> bool
         return false;
     }
     order::are_counted(
-        &area[0..COUNTS_LENGTH],
+        area.first_chunk::<COUNTS_LENGTH>().unwrap(),
         &area[COUNTS_LENGTH..LAST_NUMBER_OFFSET],
     )
 }

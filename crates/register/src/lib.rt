@@ -3,8 +3,8 @@
 
 mod admit;
 pub mod answer;
+pub mod area;
 pub mod calls;
 pub mod change;
 pub mod check;
-pub mod count;
-pub mod number;
+mod number;

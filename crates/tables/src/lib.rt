@@ -7,10 +7,12 @@ ghost use Rattle.iscc.specs.Permitted.{set_of, unit_count};
 ghost use Rattle.tables.specs.Representation.{unit_set_as};
 
 use iscc::main_type::MainType;
+use iscc::main_type::MainType::{Content, Data, Id, Instance, Meta, Semantic};
 
 const ALPHABET: [u8; 32] = *b"ABCDEFGHIJKLMNOPQRSTUVWXYZ234567";
 
 // The character of each digit.
+#[tactic(auto, unfolding(iscc::specs::Base32::base32))]
 pub fn alphabet() -> [u8; 32]
     ensures { result ≡ base32.chars }
 {
@@ -24,62 +26,48 @@ pub struct UnitSet {
     pub count: u8,
 }
 
-const META: MainType = MainType::META;
-
-const SEMANTIC: MainType = MainType::SEMANTIC;
-
-const CONTENT: MainType = MainType::CONTENT;
-
-const DATA: MainType = MainType::DATA;
-
-const INSTANCE: MainType = MainType::INSTANCE;
-
-const FILL: MainType = MainType::ID;
-
 // By the composite's length number: 4 if META is in, plus 2 if SEMANTIC is in, plus 1 if CONTENT is in.
 const SETS: [UnitSet; 8] = [
     UnitSet {
-        units: [DATA, INSTANCE, FILL, FILL, FILL],
+        units: [Data, Instance, Id, Id, Id],
         count: 2,
     },
     UnitSet {
-        units: [CONTENT, DATA, INSTANCE, FILL, FILL],
+        units: [Content, Data, Instance, Id, Id],
         count: 3,
     },
     UnitSet {
-        units: [SEMANTIC, DATA, INSTANCE, FILL, FILL],
+        units: [Semantic, Data, Instance, Id, Id],
         count: 3,
     },
     UnitSet {
-        units: [SEMANTIC, CONTENT, DATA, INSTANCE, FILL],
+        units: [Semantic, Content, Data, Instance, Id],
         count: 4,
     },
     UnitSet {
-        units: [META, DATA, INSTANCE, FILL, FILL],
+        units: [Meta, Data, Instance, Id, Id],
         count: 3,
     },
     UnitSet {
-        units: [META, CONTENT, DATA, INSTANCE, FILL],
+        units: [Meta, Content, Data, Instance, Id],
         count: 4,
     },
     UnitSet {
-        units: [META, SEMANTIC, DATA, INSTANCE, FILL],
+        units: [Meta, Semantic, Data, Instance, Id],
         count: 4,
     },
     UnitSet {
-        units: [META, SEMANTIC, CONTENT, DATA, INSTANCE],
+        units: [Meta, Semantic, Content, Data, Instance],
         count: 5,
     },
 ];
 
 // The row of a length number; that of 0 where the table has none.
+#[tactic(auto, using(iscc::proofs::Permitted::set_past))]
 fn row_of(length_number: usize) -> usize
     ensures { (result < 8) × (set_of result ≡ set_of length_number) }
 {
-    if length_number < 8 {
-        return length_number;
-    }
-    0
+    if length_number < 8 { length_number } else { 0 }
 }
 
 // The units of a composite by its length number; of a number that is none, those of 0.

@@ -1,4 +1,5 @@
 -- What callers of the reader may count on: the definitions' item behind a unit that was read, and its bounds.
+use Rattle.std.specs.Prelude.{Ok, Err}
 use Prim.Native.Nat.{ℕ, ◌+◌, ◌-◌, ◌≤◌}
 use mathlib.Core.Path.{◌≡◌, refl, ◌∙◌, ap, subst}
 use mathlib.Core.Bool.{true}
@@ -9,15 +10,13 @@ use Rattle.iscc.specs.Answer.{Answer, accept, refuse}
 use Rattle.iscc.specs.Refusals.{Refusal}
 use Rattle.iscc.specs.Varnibble.{Parsed}
 use Rattle.iscc.specs.Header.{Header}
-use Rattle.iscc.specs.Permitted.{MainType, number, type_of, permits, body_bytes}
+use Rattle.iscc.specs.Permitted.{MainType, permits, body_bytes}
 use Rattle.iscc.specs.Item.{Item, read_item}
-use Rattle.iscc.specs.Representation.{main_type_as}
-use Rattle.iscc.proofs.Permitted.{number_small, type-number, Small, small, body-most}
+use Rattle.iscc.proofs.Permitted.{number_small, Small, small, body-most}
 use Rattle.iscc.proofs.Item.{Behind, parsed_item, behind-header}
 use Rattle.header.proofs.Bounds.{header-bounds}
 use Rattle.unit.specs.declared.reader.Unit as code
-use Rattle.unit.specs.declared.reader.UnitRead.{UnitRead}
-use Rattle.unit.specs.declared.reader.UnitRead.TheVariants as read
+use Rattle.unit.specs.Representation.{UnitRead}
 use Rattle.unit.specs.Representation.{unit_as, unit_read_as}
 
 -- an item that was read: a header of two bytes, then its body
@@ -45,7 +44,7 @@ item-bounds bs = behind-header bs (ItemBounds bs) (bounds-behind bs)
 abbrev pub item_from : List ℕ → code.Unit → Item
 item_from bs u =
     record {
-      main_type = type_of u.main_type.number;
+      main_type = u.main_type;
       subtype = u.subtype;
       version = u.version;
       length_number = u.length_number;
@@ -54,11 +53,9 @@ item_from bs u =
 
 pub record UnitIs (bs : List ℕ) (u : code.Unit) : Type 0 where
   pub is : read_item bs ≡ accept (record { result = item_from bs u; used = u.used })
-  pub permitted : permits (type_of u.main_type.number) u.subtype u.version u.length_number ≡ true
-  pub named : main_type_as (type_of u.main_type.number) ≡ u.main_type
-  pub main_type : u.main_type.number ≤ 6
+  pub permitted : permits u.main_type u.subtype u.version u.length_number ≡ true
   pub start : u.start ≡ 2
-  pub size : u.used ≡ u.start + body_bytes (type_of u.main_type.number) u.subtype u.length_number
+  pub size : u.used ≡ u.start + body_bytes u.main_type u.subtype u.length_number
   pub within : u.used ≤ length bs
   pub most : u.used ≤ 42
 
@@ -66,23 +63,20 @@ unit-behind : (bs : List ℕ) (g : Parsed Item) → read_item bs ≡ accept g �
 unit-behind bs g e =
     let b : ItemBounds bs g = item-bounds bs g e in
     let n : ℕ = length g.result.body in
-    let t : type_of (number g.result.main_type) ≡ g.result.main_type = type-number g.result.main_type in
     let s : g.used - n ≡ 2 = omega (arith, b.front) in
     let k : g.used - 2 ≡ n = omega (arith, b.front) in
     record {
-      is = rw (t, s, k, ← b.body) e;
-      permitted = rw t b.permitted;
-      named = rw t;
-      main_type = number_small g.result.main_type;
+      is = rw (s, k, ← b.body) e;
+      permitted = b.permitted;
       start = s;
-      size = rw (t, ← b.size) (omega (arith, b.front));
+      size = rw (← b.size) (omega (arith, b.front));
       within = b.within;
       most = b.most;
     }
 
 -- by the reader's answer r
 module _ (bs : List ℕ) {r : UnitRead} (er : r ≡ unit_read_as (read_item bs)) where
-  pub unit-is : (u : code.Unit) → r ≡ read.Unit u → UnitIs bs u
+  pub unit-is : (u : code.Unit) → r ≡ Ok u → UnitIs bs u
   unit-is u e = go (read_item bs) refl
     where
       go : (x : Answer (Parsed Item)) → read_item bs ≡ x → UnitIs bs u
@@ -91,7 +85,7 @@ module _ (bs : List ℕ) {r : UnitRead} (er : r ≡ unit_read_as (read_item bs))
           subst (UnitIs bs) s (unit-behind bs g f)
       go (refuse q) f = let z : ◌≡◌ {A = ℕ} 0 1 = cc (ap unit_read_as f) in absurd (omega arith)
 
-  pub unit-refused : (q : Refusal) → r ≡ read.Refused q → read_item bs ≡ refuse q
+  pub unit-refused : (q : Refusal) → r ≡ Err q → read_item bs ≡ refuse q
   unit-refused q e = go (read_item bs) refl
     where
       go : (x : Answer (Parsed Item)) → read_item bs ≡ x → read_item bs ≡ refuse q

@@ -1,4 +1,5 @@
 -- Exactly one item, by the reader's answer.
+use Rattle.std.specs.Prelude.{Ok, Err}
 use Prim.Native.Nat.{ℕ, ◌+◌, ◌-◌, ◌≤◌, ◌<◌}
 use mathlib.Core.Path.{◌≡◌, refl, sym, ◌∙◌, ap, subst}
 use mathlib.Core.Bool.{true}
@@ -11,37 +12,36 @@ use borrow.Author.Tests.{le-leb, lt-leb, leb-true}
 use Rattle.iscc.specs.Answer.{Answer, accept, refuse}
 use Rattle.iscc.specs.Refusals.{Refusal, bytes_left_over}
 use Rattle.iscc.specs.Varnibble.{Parsed}
-use Rattle.iscc.specs.Permitted.{number, permits, body_bytes}
+use Rattle.iscc.specs.Permitted.{permits, body_bytes}
 use Rattle.iscc.proofs.Answer.{passed, answered, accept-inj}
 use Rattle.iscc.specs.Item.{Item, read_item, read_one}
 use Rattle.unit.specs.declared.reader.Unit as code
-use Rattle.unit.specs.declared.reader.UnitRead.{UnitRead}
-use Rattle.unit.specs.declared.reader.UnitRead.TheVariants as read
+use Rattle.unit.specs.Representation.{UnitRead}
 use Rattle.unit.specs.Representation.{unit_as, unit_read_as, one_read_as}
 use Rattle.unit.proofs.Bounds.{ItemBounds, item-bounds, UnitIs, unit-is, unit-refused}
 
 -- by the reader's answer r
 module _ (bs : List ℕ) (r : UnitRead) (er : r ≡ unit_read_as (read_item bs)) where
-  pub one-refused : (q : Refusal) → r ≡ read.Refused q → read.Refused q ≡ one_read_as bs (read_one bs)
+  pub one-refused : (q : Refusal) → r ≡ Err q → Err q ≡ one_read_as bs (read_one bs)
   unfolding read_one
   one-refused q e = rw (unit-refused bs er q e)
 
-  pub one-left-over : (u : code.Unit) → r ≡ read.Unit u → u.used < length bs → read.Refused bytes_left_over ≡ one_read_as bs (read_one bs)
+  pub one-left-over : (u : code.Unit) → r ≡ Ok u → u.used < length bs → Err bytes_left_over ≡ one_read_as bs (read_one bs)
   unfolding read_one
   one-left-over u e l = let w : UnitIs bs u = unit-is bs er u e in rw (w.is, lt-leb (length bs) u.used l)
 
-  pub one_unit : (u : code.Unit) → r ≡ read.Unit u → length bs ≤ u.used → read.Unit u ≡ one_read_as bs (read_one bs)
+  pub one_unit : (u : code.Unit) → r ≡ Ok u → length bs ≤ u.used → Ok u ≡ one_read_as bs (read_one bs)
   unfolding read_one
   one_unit u e l = go (read_item bs) refl
     where
-      go : (x : Answer (Parsed Item)) → read_item bs ≡ x → read.Unit u ≡ one_read_as bs (read_one bs)
+      go : (x : Answer (Parsed Item)) → read_item bs ≡ x → Ok u ≡ one_read_as bs (read_one bs)
       go (accept g) f =
           let s : unit_as g ≡ u = cc (ap unit_read_as f) in
           let n : g.used ≡ u.used = ap (λ (v : code.Unit). v.used) s in
           let b : ItemBounds bs g = item-bounds bs g f in
           let k : length bs ≤ g.used = omega arith in
           let m : g.used ≡ length bs = omega (arith, b.within) in
-          rw (f, le-leb (length bs) g.used k, ← m) (ap read.Unit (sym s))
+          rw (f, le-leb (length bs) g.used k, ← m) (ap Ok (sym s))
       go (refuse q) f = let z : ◌≡◌ {A = ℕ} 0 1 = cc (ap unit_read_as f) in absurd (omega arith)
 
 -- the one item: a header of two bytes, then its body
@@ -74,7 +74,7 @@ one-bounds bs i f =
 pub record OneIs (bs : List ℕ) (u : code.Unit) : Type 0 where
   pub item : Item
   pub is : read_one bs ≡ accept item
-  pub main_type : number item.main_type ≡ u.main_type.number
+  pub main_type : item.main_type ≡ u.main_type
   pub subtype : item.subtype ≡ u.subtype
   pub length_number : item.length_number ≡ u.length_number
   pub permitted : permits item.main_type item.subtype item.version item.length_number ≡ true
@@ -84,7 +84,7 @@ pub record OneIs (bs : List ℕ) (u : code.Unit) : Type 0 where
   pub within : 2 ≤ length bs
   pub most : length bs ≤ 42
 
-pub one-is : (bs : List ℕ) (u : code.Unit) → one_read_as bs (read_one bs) ≡ read.Unit u → OneIs bs u
+pub one-is : (bs : List ℕ) (u : code.Unit) → one_read_as bs (read_one bs) ≡ Ok u → OneIs bs u
 unfolding read_one
 one-is bs u e = go (read_one bs) refl
   where
@@ -110,7 +110,7 @@ one-is bs u e = go (read_one bs) refl
     go (accept i) f = let s : unit_as (record { result = i; used = length bs }) ≡ u = cc (ap (one_read_as bs) f) in subst (OneIs bs) s (of i f)
     go (refuse q) f = let z : ◌≡◌ {A = ℕ} 0 1 = cc (ap (one_read_as bs) f) in absurd (omega arith)
 
-pub one-not : (bs : List ℕ) (q : Refusal) → one_read_as bs (read_one bs) ≡ read.Refused q → read_one bs ≡ refuse q
+pub one-not : (bs : List ℕ) (q : Refusal) → one_read_as bs (read_one bs) ≡ Err q → read_one bs ≡ refuse q
 unfolding read_one
 one-not bs q e = go (read_one bs) refl
   where

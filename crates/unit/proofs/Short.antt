@@ -1,4 +1,5 @@
 -- Exactly one item, by the nibbles of its first two bytes: every permitted header is two bytes of four numbers below 8.
+use Rattle.std.specs.Prelude.{Result, Ok, Err}
 use Prim.Native.Nat.{ℕ, ◌+◌, ◌*◌, ◌/◌, ◌%◌, ◌≤◌, ◌<◌}
 use mathlib.Core.Path.{◌≡◌, refl, sym, ◌∙◌, ap, subst}
 use mathlib.Core.Bool.{Bool, true, false, true≢false}
@@ -13,20 +14,15 @@ use Rattle.iscc.specs.Answer.{Answer, accept, refuse, is_accepted}
 use Rattle.iscc.specs.Refusals.{Refusal}
 use Rattle.iscc.specs.Digits.{Below}
 use Rattle.iscc.specs.Header.{header_bytes}
-use Rattle.iscc.specs.Permitted.{MainType, number, type_of, main_type_of, permits, body_bytes}
+use Rattle.iscc.specs.Permitted.{MainType, number, main_type_of, permits, body_bytes}
 use Rattle.iscc.specs.Item.{Item, header_of, item_bytes, read_one}
-use Rattle.iscc.specs.Representation.{named_as}
-use Rattle.iscc.specs.declared.main_type.MainType as code
-use Rattle.iscc.specs.declared.main_type.Named.{Named}
-use Rattle.iscc.specs.declared.main_type.Named.TheVariants as named
-use Rattle.iscc.proofs.Answer.{accept-inj}
+use Rattle.iscc.specs.Representation.{result_of}
+use Rattle.iscc.proofs.Answer.{accept-inj, result-accepted, result-refused}
 use Rattle.iscc.proofs.Digits.{below-drop}
 use Rattle.iscc.proofs.Header.{short-bytes}
 use Rattle.iscc.proofs.Permitted.{number_small, main_type_of-number, main_type_of-back, Small, small}
 use Rattle.iscc.proofs.Item.{PermittedItem, length-item}
 use Rattle.iscc.proofs.Split.{read_one-is, one-read}
-use Rattle.unit.specs.Representation.{permits_as}
-use Rattle.unit.proofs.Read.{Known, known, unknown, permitted-as}
 
 -- by the first two bytes
 module _ (bs : List ℕ) (below : Below 256 bs) where
@@ -86,35 +82,35 @@ module _ (bs : List ℕ) (below : Below 256 bs) where
   no_header l = none (λ i e. let t = told i e in omega (arith, t.whole))
 
   -- what `is_one` makes of the two bytes
-  module _ {x y : ℕ} (ex : x ≡ a) (ey : y ≡ b) {n : Named} (en : n ≡ named_as (main_type_of (x / 16))) where
+  module _ {x y : ℕ} (ex : x ≡ a) (ey : y ≡ b) {n : Result MainType Refusal} (en : n ≡ result_of (main_type_of (x / 16))) where
     type-of : (i : Item) → read_one bs ≡ accept i → main_type_of (x / 16) ≡ accept i.main_type
     type-of i e = rw (ex, ← (told i e).main_type) (main_type_of-number i.main_type)
 
-    pub no-type : (q : Refusal) → n ≡ named.Refused q → false ≡ is_accepted (read_one bs)
-    no-type q f = none (λ i e. true≢false (ap is_accepted (sym (type-of i e) ∙ unknown (main_type_of (x / 16)) q en f)))
+    pub no-type : (q : Refusal) → n ≡ Err q → false ≡ is_accepted (read_one bs)
+    no-type q f = none (λ i e. true≢false (ap is_accepted (sym (type-of i e) ∙ result-refused (main_type_of (x / 16)) q (sym en ∙ f))))
 
-    module _ (m : code.MainType) (em : n ≡ named.MainType m) {p : Bool} (ep : p ≡ permits_as m (x % 16) (y / 16) (y % 16)) where
-      type-is : Known (main_type_of (x / 16)) m
-      type-is = known (main_type_of (x / 16)) m en em
+    module _ (m : MainType) (em : n ≡ Ok m) {p : Bool} (ep : p ≡ permits m (x % 16) (y / 16) (y % 16)) where
+      type-is : main_type_of (x / 16) ≡ accept m
+      type-is = result-accepted (main_type_of (x / 16)) m (sym en ∙ em)
 
-      permits-is : permits (type_of m.number) (a % 16) (b / 16) (b % 16) ≡ p
-      permits-is = rw (← ex, ← ey) (permitted-as m (x % 16) (y / 16) (y % 16) ep type-is.below)
+      permits-is : permits m (a % 16) (b / 16) (b % 16) ≡ p
+      permits-is = rw (← ex, ← ey) (sym ep)
 
-      by-type : (i : Item) → read_one bs ≡ accept i → Told (type_of m.number)
-      by-type i e = subst Told (accept-inj (sym (type-of i e) ∙ type-is.is)) (told i e)
+      by-type : (i : Item) → read_one bs ≡ accept i → Told m
+      by-type i e = subst Told (accept-inj (sym (type-of i e) ∙ type-is)) (told i e)
 
       pub no_row : p ≡ false → false ≡ is_accepted (read_one bs)
       no_row f = none (λ i e. true≢false (sym (by-type i e).permitted ∙ permits-is ∙ f))
 
-      module _ (l : 2 ≤ length bs) (f : p ≡ true) {k : ℕ} (ek : k ≡ body_bytes (type_of m.number) (x % 16) (y % 16)) where
-        size_is : k ≡ body_bytes (type_of m.number) (a % 16) (b % 16)
+      module _ (l : 2 ≤ length bs) (f : p ≡ true) {k : ℕ} (ek : k ≡ body_bytes m (x % 16) (y % 16)) where
+        size_is : k ≡ body_bytes m (a % 16) (b % 16)
         size_is = rw (← ex, ← ey) ek
 
         test-is : (t : Bool) → eqb (length bs) (2 + k) ≡ t → t ≡ is_accepted (read_one bs)
         test-is true e =
             let w : length bs ≡ 2 + k = eqb-true (length bs) (2 + k) e in
-            let t : number (type_of m.number) ≡ a / 16 = rw (← ex) (main_type_of-back (x / 16) (type_of m.number) type-is.is) in
-            made (type_of m.number) l (record { main_type = t; permitted = permits-is ∙ f; whole = rw (← size_is) w })
+            let t : number m ≡ a / 16 = rw (← ex) (main_type_of-back (x / 16) m type-is) in
+            made m l (record { main_type = t; permitted = permits-is ∙ f; whole = rw (← size_is) w })
         test-is false e = none (λ i r. eqb-false (length bs) (2 + k) e (rw size_is (by-type i r).whole))
 
         pub whole-test : eqb (length bs) (2 + k) ≡ is_accepted (read_one bs)

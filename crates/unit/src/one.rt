@@ -1,34 +1,23 @@
 // Reads bytes that must hold exactly one unit or composite.
-ghost use Rattle.std.specs.Prelude.{◌≡◌, ◌<◌};
+ghost use Rattle.std.specs.Prelude.{◌≡◌};
 ghost use Rattle.iscc.specs.Answer.{is_accepted};
 ghost use Rattle.iscc.specs.Item.{read_one};
 ghost use Rattle.unit.specs.Representation.{one_read_as};
 
-use crate::reader::UnitRead;
+use crate::reader::Unit;
 use crate::{permitted, reader};
-use iscc::main_type::{MainType, Named};
+use iscc::main_type::MainType;
 use iscc::refusal::Refusal;
 
 // Exactly one unit or composite: 7, 8, 9, then 19.
-pub fn read(bytes: &[u8]) -> UnitRead
+pub fn read(bytes: &[u8]) -> Result<Unit, Refusal>
     ensures { result ≡ one_read_as bytes.now (read_one bytes.now) }
 {
-    let answer = reader::read(bytes);
-    match answer {
-        UnitRead::Refused(q) => UnitRead::Refused(q),
-        UnitRead::Unit(u) => {
-            if bytes.len() <= u.used {
-                return UnitRead::Unit(u);
-            }
-            UnitRead::Refused(Refusal::BYTES_LEFT_OVER)
-        }
+    let found = reader::read(bytes)?;
+    if found.used < bytes.len() {
+        return Err(Refusal::BytesLeftOver);
     }
-}
-
-fn widen(x: u8) -> u32
-    ensures { (result ≡ x) × (result < 256) }
-{
-    x as u32
+    Ok(found)
 }
 
 // Whether the bytes are exactly one unit or composite, by the nibbles of the first two: every
@@ -39,16 +28,13 @@ pub fn is_one(bytes: &[u8]) -> bool
     if bytes.len() < 2 {
         return false;
     }
-    let first = widen(bytes[0]);
-    let second = widen(bytes[1]);
-    let named = MainType::from_number(first / 16);
-    match named {
-        Named::Refused(_) => false,
-        Named::MainType(m) => {
-            if !permitted::permits(m, first % 16, second / 16, second % 16) {
-                return false;
-            }
-            bytes.len() == 2 + permitted::body_bytes(m, first % 16, second % 16)
-        }
+    let first = u32::from(bytes[0]);
+    let second = u32::from(bytes[1]);
+    let Ok(main_type) = MainType::try_from(first / 16) else {
+        return false;
+    };
+    if !permitted::permits(main_type, first % 16, second / 16, second % 16) {
+        return false;
     }
+    bytes.len() == 2 + permitted::body_bytes(main_type, first % 16, second % 16)
 }

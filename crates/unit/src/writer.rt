@@ -12,27 +12,14 @@ use crate::permitted;
 use header::Header;
 use iscc::main_type::MainType;
 use iscc::refusal::Refusal;
-use iscc::written::Written;
-
-// Copies the first bytes of one area to the front of another.
-fn copy(from: &[u8], count: usize, to: &mut [u8])
-    requires { (count ≤ length from.now) × (count ≤ length to.old) }
-    ensures { to.new ≡ area_after (accept (take count from.now)) to.old }
-{
-    let mut i = 0;
-    while i < count {
-        to[i] = from[i];
-        i += 1;
-    }
-}
 
 // Writes a header of two bytes, and the first bytes of a body behind it.
 fn lay(h: Header, body: &[u8], count: usize, out: &mut [u8])
     requires { (h.main_type < 8) × (h.subtype < 8) × (h.version < 8) × (h.length_number < 8) × (count ≤ length body.now) × (2 + count ≤ length out.old) }
     ensures { out.new ≡ area_after (accept (header_bytes (header_from h) ++ take count body.now)) out.old }
 {
-    header::writer::write(h, out);
-    copy(body, count, &mut out[2..]);
+    let _ = header::writer::write(h, out);
+    out[2..2 + count].copy_from_slice(&body[..count]);
 }
 
 // Writes a unit: 8 (a composite is not a unit), then 9 (a longer body is cut), then 15.
@@ -43,22 +30,22 @@ pub fn write(
     length_number: u32,
     body: &[u8],
     out: &mut [u8],
-) -> Written
+) -> Result<usize, Refusal>
     ensures answer { result ≡ written_as (write_unit (header_with main_type subtype version length_number) body.now (lists.length out.old)) }
     ensures area { out.new ≡ area_after (write_unit (header_with main_type subtype version length_number) body.now (lists.length out.old)) out.old }
 {
-    if main_type.is(MainType::ISCC) {
-        return Written::Refused(Refusal::NOT_PERMITTED);
+    if main_type == MainType::Iscc {
+        return Err(Refusal::NotPermitted);
     }
     if !permitted::permits(main_type, subtype, version, length_number) {
-        return Written::Refused(Refusal::NOT_PERMITTED);
+        return Err(Refusal::NotPermitted);
     }
     let count = permitted::body_bytes(main_type, subtype, length_number);
     if body.len() < count {
-        return Written::Refused(Refusal::SHORT_BODY);
+        return Err(Refusal::ShortBody);
     }
     if out.len() < 2 + count {
-        return Written::Refused(Refusal::AREA_TOO_SHORT);
+        return Err(Refusal::AreaTooShort);
     }
     let h = Header {
         main_type: main_type.number(),
@@ -67,5 +54,5 @@ pub fn write(
         length_number,
     };
     lay(h, body, count, out);
-    Written::Length(2 + count)
+    Ok(2 + count)
 }

@@ -1,131 +1,132 @@
 -- The numbers of a list with one item more are those that `added` makes.
-use Prim.Native.Nat.{ℕ, suc, ◌+◌, ◌<◌}
-use mathlib.Core.Path.{◌≡◌, refl, sym, ◌∙◌}
-use mathlib.Core.Bool.{Bool, true, false, cond, not, ◌&&◌, not-not}
-use mathlib.Core.Option.{Option, none, some}
+use Prim.Native.Nat.{ℕ, suc, ◌<◌}
+use mathlib.Core.Path.{◌≡◌, refl, sym, ◌∙◌, ap}
+use mathlib.Core.Bool.{Bool, true, false, cond, not, ◌&&◌}
+use mathlib.Core.Option as parts
+use mathlib.Core.Option.{none, some}
 use mathlib.Core.List.{List, [], ◌∷◌, ◌++◌}
-use native.Mathlib.Numerals.{add-one}
 use native.Mathlib.Omega.{arith}
-use lib.ListN.{length, get_or, set, length-append, length-set}
+use lib.ListN.{length, set, length-append, length-set}
 use lib.Seq.{get_or-set_same, get_or-set_other}
-use lib.Dec.{eqb}
-use borrow.Author.Tests.{eq-eqb, ne_eqb, eqb-true, eqb-false}
-use Rattle.iscc.specs.Permitted.{MainType, META, SEMANTIC, CONTENT, DATA, INSTANCE, ISCC, ID, number}
+use borrow.Author.Tests.{eqb-true, eqb-false}
+use Rattle.std.specs.Prelude.{Option, Some, None, is_some}
+use Rattle.iscc.specs.Permitted.{MainType, number}
+use Rattle.iscc.specs.declared.main_type.MainType.TheVariants.{Meta, Semantic, Content, Data, Instance, Iscc, Id}
 use Rattle.iscc.specs.Item.{Item}
 use Rattle.iscc.specs.Lists.{every, pairwise, first_not, first_clash}
 use Rattle.iscc.specs.Items.{same_type, joinable, is_64_bits, other_type, shared_subtype, body_in, is_in, has}
 use Rattle.iscc.proofs.Permitted.{number_small}
 use Rattle.iscc.proofs.Items.{same_type-eq}
-use Rattle.iscc.proofs.Lists.{first_not-end, first_not-snoc, first_clash-end, first_clash-snoc}
+use Rattle.iscc.proofs.Lists.{every_append, first_not-end, first_not-snoc, first_clash-end, first_clash-snoc}
 use Rattle.units.specs.declared.summary.Summary.{Summary}
-use Rattle.units.specs.Summary.{first_subtype, BodyAt, Summarizes, advanced, is_joinable, is_subtyped, any_subtyped, shares, with_offset, empty_summary, added}
-use Rattle.units.proofs.Snoc.{body_in-snoc, others, subtyped, first_subtype-snoc, shares-is}
+use Rattle.units.specs.Summary.{first_subtype, breaker, clasher, StandsAt, BodyAt, Summarizes, advanced, offset_in, has_offset, with_offset, empty_summary, added}
+use Rattle.units.proofs.Snoc.{pairwise-snoc, body_in-snoc, others, first_subtype-snoc, shares-is}
 
 -- ---- a rule's first breaker
 
-pub advance-not : (p : Item → Bool) (is : List Item) (i : Item) → first_not p (is ++ (i ∷ [])) ≡ advanced (first_not p is) (length is) (p i)
+-- one item later: whether all before keep a rule, whether the next does, the index of the first that does not, and that of the next
+advance-by : (all next : Bool) (k n : ℕ) → (all ≡ true → k ≡ n) → cond (all && next) None (Some (cond (all && next) (suc n) k)) ≡ advanced (cond all None (Some k)) n next
 unfolding advanced
-advance-not p is i = rw (first_not-snoc p is i, first_not-end p is, add-one)
+advance-by true true k n e = refl
+advance-by true false k n e = ap Some (e refl)
+advance-by false next k n e = refl
+
+pub advance-not : (p : Item → Bool) (is : List Item) (i : Item) → breaker p (is ++ (i ∷ [])) ≡ advanced (breaker p is) (length is) (p i)
+advance-not p is i =
+    rw (every_append p is i, first_not-snoc p is i)
+    (advance-by (every p is) (p i) (first_not p is) (length is) (λ e. eqb-true _ _ (sym (first_not-end p is) ∙ e)))
 
 pub advance-clash : (r : Item → Item → Bool) (is : List Item) (i : Item) (b : Bool) → (pairwise r is ≡ true → every (λ e. r e i) is ≡ b)
-    → first_clash r [] (is ++ (i ∷ [])) ≡ advanced (first_clash r [] is) (length is) b
-unfolding advanced
-advance-clash r is i b f = first_clash-snoc r is i ∙ go (pairwise r is) refl ∙ rw (first_clash-end r is, add-one)
+    → clasher r (is ++ (i ∷ [])) ≡ advanced (clasher r is) (length is) b
+advance-clash r is i b f =
+    rw (pairwise-snoc r is i, first_clash-snoc r is i, both (pairwise r is) refl)
+    (advance-by (pairwise r is) b (first_clash r [] is) (length is) (λ e. eqb-true _ _ (sym (first_clash-end r is) ∙ e)))
   where
-    go : (c : Bool) → pairwise r is ≡ c
-        → cond (c && every (λ e. r e i) is) (suc (length is)) (first_clash r [] is) ≡ cond (c && b) (suc (length is)) (first_clash r [] is)
-    go true e = rw (f e)
-    go false e = refl
+    both : (c : Bool) → pairwise r is ≡ c → c && every (λ e. r e i) is ≡ c && b
+    both true e = f e
+    both false e = refl
 
 -- ---- offsets
 
-pub offset-tells : (bs : List ℕ) (o : Option (List ℕ)) (at : ℕ) → BodyAt bs o at → eqb at 0 ≡ not (is_in o)
-offset-tells bs none at p = eq-eqb at 0 p
-offset-tells bs (some body) at p = ne_eqb at 0 (λ e. omega (arith, p.0))
+pub offset-tells : (bs : List ℕ) (o : parts.Option (List ℕ)) (at : Option ℕ) → BodyAt bs o at → is_some at ≡ is_in o
+offset-tells bs none at p = rw p
+offset-tells bs (some body) at p = rw p.1
 
 module _ (bs : List ℕ) (is : List Item) (l : Summary) (s : Summarizes bs is l) where
-  unseen : (m : MainType) → eqb (get_or l.offsets (number m) 0) 0 ≡ not (has m is)
-  unseen m = offset-tells bs (body_in m is) (get_or l.offsets (number m) 0) (s.offsets m)
-
-  pub any-is : any_subtyped l.offsets ≡ subtyped is
-  any-is = rw (unseen SEMANTIC, unseen CONTENT, not-not (has SEMANTIC is), not-not (has CONTENT is))
+  pub seen : (m : MainType) → has_offset l.offsets m ≡ has m is
+  seen m = offset-tells bs (body_in m is) (offset_in l.offsets m) (s.offsets m)
 
   -- an item behind, whose body stands at an offset
-  module _ (i : Item) (at : ℕ) (h : BodyAt bs (some i.body) at) where
-    abbrev n : ℕ
-    n = number i.main_type
+  module _ (i : Item) (at : ℕ) (h : StandsAt bs i.body at) where
+    abbrev m : MainType
+    m = i.main_type
 
-    shares_as : pairwise shared_subtype is ≡ true → every (λ e. shared_subtype e i) is ≡ shares l n i.subtype
-    unfolding shares
-    shares_as e = shares-is is i e ∙ rw (any-is, s.subtype)
-
-    size-after : length (with_offset l.offsets n at) ≡ 7
+    size-after : length (with_offset l.offsets m at) ≡ 7
     unfolding with_offset
-    size-after = go (eqb (get_or l.offsets n 0) 0)
+    size-after = go (has_offset l.offsets m)
       where
-        go : (b : Bool) → length (cond b (set l.offsets n at) l.offsets) ≡ 7
-        go true = length-set l.offsets n at ∙ s.size
-        go false = s.size
+        go : (b : Bool) → length (cond b l.offsets (set l.offsets (number m) (Some at))) ≡ 7
+        go true = s.size
+        go false = length-set l.offsets (number m) (Some at) ∙ s.size
 
-    here : (m : MainType) → m ≡ i.main_type → BodyAt bs (cond (has m is) (body_in m is) (some i.body)) (get_or (with_offset l.offsets n at) (number m) 0)
+    here : (t : MainType) → t ≡ m → BodyAt bs (cond (has t is) (body_in t is) (some i.body)) (offset_in (with_offset l.offsets m at) t)
     unfolding with_offset
-    here m e = rw e (go (body_in i.main_type is) (eqb (get_or l.offsets n 0) 0) (s.offsets i.main_type) refl)
+    here t e = rw (e, seen m) (go (body_in m is) (s.offsets m))
       where
-        go : (o : Option (List ℕ)) (b : Bool) → BodyAt bs o (get_or l.offsets n 0) → eqb (get_or l.offsets n 0) 0 ≡ b
-            → BodyAt bs (cond (is_in o) o (some i.body)) (get_or (cond b (set l.offsets n at) l.offsets) n 0)
-        go none true p q =
-            let k : n < length l.offsets = omega (arith, s.size, number_small i.main_type) in
-            rw (get_or-set_same l.offsets n at 0 k) h
-        go none false p q = absurd (eqb-false _ 0 q p)
-        go (some body) true p q = absurd (omega (arith, p.0, eqb-true (get_or l.offsets n 0) 0 q))
-        go (some body) false p q = p
+        room : number m < length l.offsets
+        room = omega (arith, s.size, number_small m)
 
-    elsewhere : (m : MainType) → same_type m i.main_type ≡ false → BodyAt bs (cond (has m is) (body_in m is) none) (get_or (with_offset l.offsets n at) (number m) 0)
+        go : (o : parts.Option (List ℕ)) → BodyAt bs o (offset_in l.offsets m)
+            → BodyAt bs (cond (is_in o) o (some i.body)) (offset_in (cond (is_in o) l.offsets (set l.offsets (number m) (Some at))) m)
+        go none p = (at, get_or-set_same l.offsets (number m) (Some at) None room, h)
+        go (some body) p = p
+
+    elsewhere : (t : MainType) → same_type t m ≡ false → BodyAt bs (cond (has t is) (body_in t is) none) (offset_in (with_offset l.offsets m at) t)
     unfolding with_offset
-    elsewhere m e = go (body_in m is) (eqb (get_or l.offsets n 0) 0) (s.offsets m)
+    elsewhere t e = go (body_in t is) (s.offsets t)
       where
-        kept : (b : Bool) → get_or (cond b (set l.offsets n at) l.offsets) (number m) 0 ≡ get_or l.offsets (number m) 0
-        kept true = get_or-set_other l.offsets n (number m) at 0 (eqb-false (number m) n e)
-        kept false = refl
+        kept : (b : Bool) → offset_in (cond b l.offsets (set l.offsets (number m) (Some at))) t ≡ offset_in l.offsets t
+        kept true = refl
+        kept false = get_or-set_other l.offsets (number m) (number t) (Some at) None (eqb-false (number t) (number m) e)
 
-        go : (o : Option (List ℕ)) (b : Bool) → BodyAt bs o (get_or l.offsets (number m) 0)
-            → BodyAt bs (cond (is_in o) o none) (get_or (cond b (set l.offsets n at) l.offsets) (number m) 0)
-        go none b p = kept b ∙ p
-        go (some body) b p = rw (kept b) p
+        go : (o : parts.Option (List ℕ)) → BodyAt bs o (offset_in l.offsets t)
+            → BodyAt bs (cond (is_in o) o none) (offset_in (cond (has_offset l.offsets m) l.offsets (set l.offsets (number m) (Some at))) t)
+        go none p = kept (has_offset l.offsets m) ∙ p
+        go (some body) p = rw (kept (has_offset l.offsets m)) p
 
-    offset-after : (m : MainType) → BodyAt bs (body_in m (is ++ (i ∷ []))) (get_or (with_offset l.offsets n at) (number m) 0)
-    offset-after m = rw (body_in-snoc m is i) (go (same_type m i.main_type) refl)
+    offset-after : (t : MainType) → BodyAt bs (body_in t (is ++ (i ∷ []))) (offset_in (with_offset l.offsets m at) t)
+    offset-after t = rw (body_in-snoc t is i) (go (same_type t m) refl)
       where
-        go : (b : Bool) → same_type m i.main_type ≡ b
-            → BodyAt bs (cond (has m is) (body_in m is) (cond b (some i.body) none)) (get_or (with_offset l.offsets n at) (number m) 0)
-        go true e = here m (same_type-eq m i.main_type e)
-        go false e = elsewhere m e
+        go : (b : Bool) → same_type t m ≡ b
+            → BodyAt bs (cond (has t is) (body_in t is) (cond b (some i.body) none)) (offset_in (with_offset l.offsets m at) t)
+        go true e = here t (same_type-eq t m e)
+        go false e = elsewhere t e
 
-    pub added_is : Summarizes bs (is ++ (i ∷ [])) (added l n i.subtype (length i.body) at)
-    unfolding added shares
+    pub added_is : Summarizes bs (is ++ (i ∷ [])) (added l m i.subtype (length i.body) at)
+    unfolding added
     added_is =
         record {
           count = rw s.count (sym (length-append is (i ∷ [])));
           not_joinable = rw (s.not_joinable, s.count) (sym (advance-not joinable is i));
           not_64_bits = rw (s.not_64_bits, s.count) (sym (advance-not is_64_bits is i));
-          repeated = rw (s.repeated, s.count) (sym (advance-clash other_type is i (eqb (get_or l.offsets n 0) 0) (λ _. others is i ∙ sym (unseen i.main_type))));
-          clash = rw (s.clash, s.count) (sym (advance-clash shared_subtype is i (shares l n i.subtype) shares_as));
-          subtype = rw (any-is, s.subtype) (sym (first_subtype-snoc is i));
+          repeated = rw (s.repeated, s.count) (sym (advance-clash other_type is i _ (λ _. others is i ∙ ap not (sym (seen m)))));
+          clash = rw (s.clash, s.count, s.subtype) (sym (advance-clash shared_subtype is i _ (shares-is is i)));
+          subtype = rw s.subtype (sym (first_subtype-snoc is i));
           size = size-after;
           offsets = offset-after;
         }
 
-no-offset : (m : MainType) → get_or empty_summary.offsets (number m) 0 ≡ 0
-no-offset META = refl
-no-offset SEMANTIC = refl
-no-offset CONTENT = refl
-no-offset DATA = refl
-no-offset INSTANCE = refl
-no-offset ISCC = refl
-no-offset ID = refl
+no-offset : (m : MainType) → offset_in empty_summary.offsets m ≡ None
+no-offset Meta = refl
+no-offset Semantic = refl
+no-offset Content = refl
+no-offset Data = refl
+no-offset Instance = refl
+no-offset Iscc = refl
+no-offset Id = refl
 
 pub empty-is : (bs : List ℕ) → Summarizes bs [] empty_summary
-unfolding first_not first_clash first_subtype body_in
+unfolding every pairwise first_subtype body_in
 empty-is bs =
     record {
       count = refl;
@@ -137,12 +138,3 @@ empty-is bs =
       size = refl;
       offsets = no-offset;
     }
-
--- what `add` answers is what `added` says, by the answers of its calls
-pub add_is : (l : Summary) (m s n at k : ℕ) (j sh : Bool) (nj n64 rp cl st : ℕ) (offsets : List ℕ) → k ≡ m → j ≡ is_joinable m
-    → nj ≡ advanced l.not_joinable l.count j → n64 ≡ advanced l.not_64_bits l.count (eqb n 8)
-    → rp ≡ advanced l.repeated l.count (eqb (get_or l.offsets k 0) 0) → sh ≡ shares l m s → cl ≡ advanced l.clash l.count sh
-    → st ≡ cond (is_subtyped m) (cond (any_subtyped l.offsets) l.subtype s) l.subtype → offsets ≡ with_offset l.offsets m at
-    → ◌≡◌ {A = Summary} (record { count = l.count + 1; not_joinable = nj; not_64_bits = n64; repeated = rp; clash = cl; subtype = st; offsets = offsets }) (added l m s n at)
-unfolding added
-add_is l m s n at k j sh nj n64 rp cl st offsets e₁ e₂ e₃ e₄ e₅ e₆ e₇ e₈ e₉ = rw (e₃, e₄, e₅, e₇, e₈, e₉, e₂, e₆, e₁)

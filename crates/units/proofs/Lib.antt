@@ -1,5 +1,4 @@
 -- The laws that carry the definitions of `iscc` to this crate's code.
-pub mod Tests
 pub mod Snoc
 pub mod Added
 pub mod Decided

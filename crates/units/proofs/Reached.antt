@@ -1,4 +1,5 @@
 -- The list reader on its way: the items so far, and what the rest adds to them.
+use Rattle.std.specs.Prelude.{Ok, Err}
 use Prim.Native.Nat.{ℕ, zero, suc, ◌+◌, ◌-◌, ◌≤◌, ◌<◌}
 use mathlib.Core.Path.{◌≡◌, refl, sym, ◌∙◌, ap, subst, subst⁻¹}
 use mathlib.Core.Bool.{false}
@@ -8,19 +9,17 @@ use lib.ListN.{length, take, drop, length-drop}
 use lib.Seq.{drop-drop}
 use lib.Dec.{leb}
 use borrow.Author.Tests.{le-leb, lt-leb}
+use Rattle.iscc.specs.Detailed.{with_detail}
 use Rattle.iscc.specs.Refusals.{Refusal}
 use Rattle.iscc.specs.Answer.{Answer, accept, refuse, ◌>>=◌}
 use Rattle.iscc.specs.Varnibble.{Parsed}
-use Rattle.iscc.specs.Permitted.{number}
 use Rattle.iscc.specs.Item.{Item, read_item}
 use Rattle.iscc.specs.Items.{read_up_to, read_items}
-use Rattle.iscc.proofs.Permitted.{number_small}
 use Rattle.iscc.proofs.Parts.{rest-is}
 use Rattle.units.specs.declared.summary.Summary.{Summary}
-use Rattle.units.specs.declared.reader.Reading.{Reading}
+use Rattle.units.specs.Reading.{Reading}
 use Rattle.unit.specs.declared.reader.Unit.{Unit}
-use Rattle.unit.specs.declared.reader.UnitRead.{UnitRead}
-use Rattle.unit.specs.declared.reader.UnitRead.TheVariants as found
+use Rattle.unit.specs.Representation.{UnitRead}
 use Rattle.unit.specs.Representation.{unit_as, unit_read_as}
 use Rattle.unit.proofs.Bounds.{ItemBounds, item-bounds}
 use Rattle.units.specs.Summary.{Summarizes, empty_summary, added}
@@ -105,7 +104,7 @@ module _ (bs : List ℕ) (is : List Item) (at : ℕ) (l : Summary) (r : Reached 
     abbrev it : ItemBounds (drop at bs) g
     it = item-bounds (drop at bs) g e
 
-    pub turn-added : Summarizes bs (is ++ (g.result ∷ [])) (added l (number g.result.main_type) g.result.subtype (length g.result.body) (at + 2))
+    pub turn-added : Summarizes bs (is ++ (g.result ∷ [])) (added l g.result.main_type g.result.subtype (length g.result.body) (at + 2))
     turn-added =
         added_is bs is l s g.result (at + 2)
         (omega arith, omega (arith, it.front, it.within, length-drop at bs), ap (take (length g.result.body)) (sym (drop-drop 2 at bs)) ∙ sym it.body)
@@ -135,11 +134,11 @@ abbrev pub Ends : List ℕ → Reading → Summary → Type 0
 Ends bs a l = (a ≡ reading_as (refused_index bs) (read_items bs)) × Summarizes bs (leading_items bs) l
 
 -- what `unit::reader::read` found
-unit-found : (a : Answer (Parsed Item)) {f : UnitRead} (u : Unit) → f ≡ unit_read_as a → f ≡ found.Unit u → (g : Parsed Item) × (a ≡ accept g) × (unit_as g ≡ u)
+unit-found : (a : Answer (Parsed Item)) {f : UnitRead} (u : Unit) → f ≡ unit_read_as a → f ≡ Ok u → (g : Parsed Item) × (a ≡ accept g) × (unit_as g ≡ u)
 unit-found (accept g) u e h = (g, refl, cc)
 unit-found (refuse q) u e h = let z : ◌≡◌ {A = ℕ} 0 1 = cc in absurd (omega arith)
 
-none_found : (a : Answer (Parsed Item)) {f : UnitRead} (q : Refusal) → f ≡ unit_read_as a → f ≡ found.Refused q → a ≡ refuse q
+none_found : (a : Answer (Parsed Item)) {f : UnitRead} (q : Refusal) → f ≡ unit_read_as a → f ≡ Err q → a ≡ refuse q
 none_found (accept g) q e h = let z : ◌≡◌ {A = ℕ} 0 1 = cc in absurd (omega arith)
 none_found (refuse p) q e h = let s : p ≡ q = cc in ap refuse s
 
@@ -147,12 +146,11 @@ pub record Turn (bs : List ℕ) (l : Summary) (at : ℕ) (u : Unit) : Type 0 whe
   pub start : u.start ≡ 2
   pub used : 2 ≤ u.used
   pub within : at + u.used ≤ length bs
-  pub type : u.main_type.number < 7
-  pub more : (k : Summary) → k ≡ added l u.main_type.number u.subtype (u.used - u.start) (at + u.start) → at + u.used < length bs → Running bs k (at + u.used)
-  pub ends : (k : Summary) → k ≡ added l u.main_type.number u.subtype (u.used - u.start) (at + u.start) → length bs ≤ at + u.used → Ends bs Reading.Items k
+  pub more : (k : Summary) → k ≡ added l u.main_type u.subtype (u.used - u.start) (at + u.start) → at + u.used < length bs → Running bs k (at + u.used)
+  pub ends : (k : Summary) → k ≡ added l u.main_type u.subtype (u.used - u.start) (at + u.start) → length bs ≤ at + u.used → Ends bs (Ok tt) k
 
 module _ (bs : List ℕ) (l : Summary) (at : ℕ) (w : Running bs l at) {f : UnitRead} (ef : f ≡ unit_read_as (read_item (take (length bs - at) (drop at bs)))) where
-  pub refuses : (q : Refusal) → f ≡ found.Refused q → Ends bs (Reading.Refused q l.count) l
+  pub refuses : (q : Refusal) → f ≡ Err q → Ends bs (Err (with_detail l.count q)) l
   unfolding refused_index
   refuses q e =
       let r : read_item (drop at bs) ≡ refuse q = ap read_item (sym (rest-is bs at)) ∙ none_found (read_item (take (length bs - at) (drop at bs))) q ef e in
@@ -161,12 +159,12 @@ module _ (bs : List ℕ) (l : Summary) (at : ℕ) (w : Running bs l at) {f : Uni
 
   module _ (g : Parsed Item) (e : read_item (drop at bs) ≡ accept g) where
     abbrev next_list : Summary
-    next_list = added l (number g.result.main_type) g.result.subtype (length g.result.body) (at + 2)
+    next_list = added l g.result.main_type g.result.subtype (length g.result.body) (at + 2)
 
     abbrev here : ItemBounds (drop at bs) g
     here = item-bounds (drop at bs) g e
 
-    same-list : added l (number g.result.main_type) g.result.subtype (g.used - (g.used - length g.result.body)) (at + (g.used - length g.result.body)) ≡ next_list
+    same-list : added l g.result.main_type g.result.subtype (g.used - (g.used - length g.result.body)) (at + (g.used - length g.result.body)) ≡ next_list
     same-list =
         let a : g.used - (g.used - length g.result.body) ≡ length g.result.body = omega (arith, here.front) in
         let b : g.used - length g.result.body ≡ 2 = omega (arith, here.front) in
@@ -184,7 +182,6 @@ module _ (bs : List ℕ) (l : Summary) (at : ℕ) (w : Running bs l at) {f : Uni
           start = omega (arith, here.front);
           used = omega (arith, here.front);
           within = omega (arith, here.within, w.within, length-drop at bs, here.front);
-          type = omega (arith, number_small g.result.main_type);
           more =
               λ j z h. subst⁻¹ (λ (x : Summary). Running bs x (at + g.used)) (z ∙ same-list)
               (record {
@@ -199,7 +196,7 @@ module _ (bs : List ℕ) (l : Summary) (at : ℕ) (w : Running bs l at) {f : Uni
               (rw r.0, subst⁻¹ (λ (x : List Item). Summarizes bs x j) r.1 (subst⁻¹ (λ (x : Summary). Summarizes bs items x) (z ∙ same-list) s));
         }
 
-  pub turn : (u : Unit) → f ≡ found.Unit u → Turn bs l at u
+  pub turn : (u : Unit) → f ≡ Ok u → Turn bs l at u
   turn u e =
       let g = unit-found (read_item (take (length bs - at) (drop at bs))) u ef e in
       subst (Turn bs l at) g.2 (turn-of g.0 (ap read_item (sym (rest-is bs at)) ∙ g.1))

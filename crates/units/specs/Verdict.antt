@@ -1,15 +1,18 @@
 -- The tests of a list, and the detail of the first that fails.
-use Rattle.std.specs.Prelude.{ℕ, Bool, cond, not, List, [], eqb}
-use Rattle.iscc.specs.Refusals.{not_joinable, not_64_bits, main_type_twice, lacks_data_or_instance, subtypes_differ}
+use Rattle.iscc.specs.Detailed.{with_detail}
+use Rattle.std.specs.Prelude.{Ok, Err}
+use Rattle.std.specs.Prelude.{ℕ, cond, List, [], Option, Some, None}
+use Rattle.iscc.specs.Refusals.{Refusal, not_joinable, not_64_bits, main_type_twice, lacks_data_or_instance, subtypes_differ}
 use Rattle.iscc.specs.Answer.{Answer, accept, refuse}
-use Rattle.iscc.specs.Permitted.{DATA, INSTANCE, number}
+use Rattle.iscc.specs.Permitted.{MainType, number}
+use Rattle.iscc.specs.declared.main_type.MainType.TheVariants.{Data, Instance}
 use Rattle.iscc.specs.Meaning.{Meaning}
 use Rattle.iscc.specs.Item.{Item}
 use Rattle.iscc.specs.Lists.{every, pairwise, first_not, first_clash}
 use Rattle.iscc.specs.Items.{joinable, is_64_bits, other_type, shared_subtype, has, composite_from}
 use Rattle.units.specs.declared.summary.Summary.{Summary}
-use Rattle.units.specs.declared.verdict.Verdict.{Verdict}
-use Rattle.units.specs.declared.verdict.Verdict.TheVariants.{Composite, Refused}
+use Rattle.iscc.specs.declared.refusal.DetailedRefusal.{DetailedRefusal}
+use Rattle.std.specs.Prelude.{Result}
 use Rattle.units.specs.Summary.{has_offset}
 
 -- an item's index, or for 13 the number of the main type that is missing
@@ -18,34 +21,40 @@ verdict_detail is =
     cond (every joinable is)
     (cond (every is_64_bits is)
     (cond (pairwise other_type is)
-    (cond (has DATA is) (cond (has INSTANCE is) (first_clash shared_subtype [] is) (number INSTANCE)) (number DATA))
+    (cond (has Data is) (cond (has Instance is) (first_clash shared_subtype [] is) (number Instance)) (number Data))
     (first_clash other_type [] is))
     (first_not is_64_bits is))
     (first_not joinable is)
 
+abbrev pub Verdict : Type 0
+Verdict = Result (Unit {0}) DetailedRefusal
+
 abbrev pub verdict_as : ℕ → Answer Meaning → Verdict
-verdict_as k (accept m) = Composite
-verdict_as k (refuse q) = Refused q k
+verdict_as k (accept m) = Ok tt
+verdict_as k (refuse q) = Err (with_detail k q)
 
 unfoldable pub verdict_of : List Item → Verdict
 verdict_of is = verdict_as (verdict_detail is) (composite_from is)
 
 -- ---- the same tests over the numbers of a summary, whatever they are
 
--- the first item that breaks a rule is not the one behind the last
-abbrev pub breaks : ℕ → Summary → Bool
-breaks first l = not (eqb first l.count)
+-- refused at the index of the first item that breaks a rule, if one does
+abbrev pub refused_at : Option ℕ → Refusal → Verdict → Verdict
+refused_at (Some k) q v = Err (with_detail k q)
+refused_at None q v = v
 
--- by the main type's number
-abbrev pub lacks : ℕ → Verdict
-lacks m = Refused lacks_data_or_instance m
+abbrev pub lacks : MainType → Verdict
+lacks m = Err (with_detail (number m) lacks_data_or_instance)
+
+-- refused where there is no body of a main type
+abbrev pub refused_without : Summary → MainType → Verdict → Verdict
+refused_without l m v = cond (has_offset l.offsets m) v (lacks m)
 
 unfoldable pub decided : Summary → Verdict
 decided l =
-    cond (breaks l.not_joinable l) (Refused not_joinable l.not_joinable)
-    (cond (breaks l.not_64_bits l) (Refused not_64_bits l.not_64_bits)
-    (cond (breaks l.repeated l) (Refused main_type_twice l.repeated)
-    (cond (not (has_offset l.offsets DATA)) (lacks (number DATA))
-    (cond (not (has_offset l.offsets INSTANCE)) (lacks (number INSTANCE))
-    (cond (breaks l.clash l) (Refused subtypes_differ l.clash)
-    Composite)))))
+    refused_at l.not_joinable not_joinable
+    (refused_at l.not_64_bits not_64_bits
+    (refused_at l.repeated main_type_twice
+    (refused_without l Data
+    (refused_without l Instance
+    (refused_at l.clash subtypes_differ (Ok tt))))))

@@ -4,22 +4,14 @@ ghost use Rattle.iscc.specs.Items.{read_items};
 ghost use Rattle.units.specs.Summary.{Summarizes};
 ghost use Rattle.units.specs.Reading.{leading_items, refused_index, reading_as};
 
-use crate::summary;
 use crate::summary::Summary;
-use iscc::refusal::Refusal;
-use unit::reader::UnitRead;
+use iscc::refusal::{DetailedRefusal, Refusal};
 
-// Every item was read; or the refusal of the first that is refused, and its index.
-#[derive(Clone, Copy)]
-pub enum Reading {
-    Items,
-    Refused(Refusal, usize),
-}
-
-// What was read. A refusal's summary is that of the items before.
+// What was read: every item; or the refusal of the first that is refused, and its index. No Result of the summary, since a refusal
+// promises that of the items before.
 #[derive(Clone, Copy)]
 pub struct ListRead {
-    pub answer: Reading,
+    pub answer: Result<(), DetailedRefusal>,
     pub list: Summary,
 }
 
@@ -28,27 +20,24 @@ pub fn read(bytes: &[u8]) -> ListRead
     ensures answer { result.answer ≡ reading_as (refused_index bytes.now) (read_items bytes.now) }
     ensures list { Summarizes bytes.now (leading_items bytes.now) result.list }
 {
-    let mut list = summary::empty();
+    let mut list = Summary::empty();
     let mut at: usize = 0;
+    // a step for each item, which says where the next begins; no bytes at all are a step too, so no iterator over the items is plainer
     loop {
-        let found = unit::reader::read(&bytes[at..]);
-        match found {
-            UnitRead::Refused(q) => {
+        let u = match unit::reader::read(&bytes[at..]) {
+            Ok(u) => u,
+            Err(q) => {
                 return ListRead {
-                    answer: Reading::Refused(q, list.count),
+                    answer: Err(q.with_detail(list.count)),
                     list,
                 };
             }
-            UnitRead::Unit(u) => {
-                let offset = at + u.start;
-                let after = summary::add(list, u.main_type, u.subtype, u.used - u.start, offset);
-                list = after;
-                at += u.used;
-            }
-        }
+        };
+        list.add(u.main_type, u.subtype, u.used - u.start, at + u.start);
+        at += u.used;
         if bytes.len() <= at {
             return ListRead {
-                answer: Reading::Items,
+                answer: Ok(()),
                 list,
             };
         }

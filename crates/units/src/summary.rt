@@ -1,155 +1,118 @@
 // What one pass over a list keeps of the items read so far. No body is copied.
-ghost use Rattle.std.specs.Prelude.{◌≡◌, cond, ◌+◌, ◌<◌, get_or};
-ghost use Rattle.units.specs.Summary.{empty_summary, advanced, is_joinable, is_subtyped, any_subtyped, shares, with_offset, added};
+ghost use Rattle.std.specs.Prelude.{◌≡◌, ◌<◌};
+ghost use Rattle.units.specs.Summary.{empty_summary, advanced, is_joinable, offset_in, shares, subtype_after, added};
 
 use iscc::main_type::MainType;
 
-// An index is that of the first item that breaks a rule of the list, and the count of items where none does.
 #[derive(Clone, Copy)]
 pub struct Summary {
     pub count: usize,
-    // a composite or an ID
-    pub not_joinable: usize,
-    // a body that is not of 64 bits
-    pub not_64_bits: usize,
-    // a main type that an item before it has
-    pub repeated: usize,
-    // a subtype that differs from that of a SEMANTIC or CONTENT unit before it
-    pub clash: usize,
+    // the index of the first composite or ID
+    pub not_joinable: Option<usize>,
+    // of the first body that is not of 64 bits
+    pub not_64_bits: Option<usize>,
+    // of the first item whose main type an item before it has
+    pub repeated: Option<usize>,
+    // of the first SEMANTIC or CONTENT unit whose subtype differs from that of one before it
+    pub clash: Option<usize>,
     // of the first SEMANTIC or CONTENT unit
-    pub subtype: u32,
-    // by main type: where the body of the first such item stands in the input, 0 if there is none
-    pub offsets: [usize; 7],
+    pub subtype: Option<u32>,
+    // by main type: where the body of the first such item stands in the input
+    pub offsets: [Option<usize>; 7],
 }
 
-// Of no items.
-pub(crate) fn empty() -> Summary
-    ensures { result ≡ empty_summary }
+fn is_joinable(main_type: MainType) -> bool
+    ensures { result ≡ is_joinable main_type }
 {
-    Summary {
-        count: 0,
-        not_joinable: 0,
-        not_64_bits: 0,
-        repeated: 0,
-        clash: 0,
-        subtype: 0,
-        offsets: [0; 7],
+    match main_type {
+        MainType::Iscc => false,
+        MainType::Id => false,
+        _ => true,
     }
 }
 
 // The index of the first item that breaks a rule, one item later.
-fn advance(first: usize, count: usize, holds: bool) -> usize
-    requires { count < 18446744073709551615 }
+#[tactic(auto, unfolding(crate::specs::Summary::advanced))]
+fn advance(first: Option<usize>, count: usize, holds: bool) -> Option<usize>
     ensures { result ≡ advanced first count holds }
 {
-    if first == count {
-        if holds {
-            return count + 1;
+    match first {
+        Some(k) => Some(k),
+        None => {
+            if holds {
+                return None;
+            }
+            Some(count)
         }
     }
-    first
 }
 
-fn is_joinable(main_type: MainType) -> bool
-    ensures { result ≡ is_joinable main_type.number }
-{
-    if main_type.is(MainType::ISCC) {
-        return false;
-    }
-    !main_type.is(MainType::ID)
-}
-
-// SEMANTIC and CONTENT have subtypes of their own.
-fn is_subtyped(main_type: MainType) -> bool
-    ensures { result ≡ is_subtyped main_type.number }
-{
-    if main_type.is(MainType::SEMANTIC) {
-        return true;
-    }
-    main_type.is(MainType::CONTENT)
-}
-
-// Of a main type: where the body of its first item stands in the input, 0 if there is none.
-pub fn offset_of(offsets: [usize; 7], main_type: MainType) -> usize
-    ensures { result ≡ get_or offsets main_type.number 0 }
-{
-    let number = main_type.number() as usize;
-    if number < 7 {
-        return offsets[number];
-    }
-    0
-}
-
-// Whether the list has a SEMANTIC or a CONTENT unit.
-pub fn any_subtyped(list: Summary) -> bool
-    ensures { result ≡ any_subtyped list.offsets }
-{
-    let offsets = list.offsets;
-    if offset_of(offsets, MainType::SEMANTIC) != 0 {
-        return true;
-    }
-    offset_of(offsets, MainType::CONTENT) != 0
-}
-
-// Whether a unit has the subtype of the SEMANTIC and CONTENT units so far, if it is one.
-fn is_shared(list: Summary, main_type: MainType, subtype: u32) -> bool
-    ensures { result ≡ shares list main_type.number subtype }
-{
-    if is_subtyped(main_type) {
-        if any_subtyped(list) {
-            return list.subtype == subtype;
+impl Summary {
+    // Of no items.
+    pub(crate) fn empty() -> Self
+        ensures { result ≡ empty_summary }
+    {
+        Summary {
+            count: 0,
+            not_joinable: None,
+            not_64_bits: None,
+            repeated: None,
+            clash: None,
+            subtype: None,
+            offsets: [None; 7],
         }
     }
-    true
-}
 
-// The subtype of the first SEMANTIC or CONTENT unit, one item later.
-fn subtype_after(list: Summary, main_type: MainType, subtype: u32) -> u32
-    ensures { result ≡ cond (is_subtyped main_type.number) (cond (any_subtyped list.offsets) list.subtype subtype) list.subtype }
-{
-    if is_subtyped(main_type) {
-        if any_subtyped(list) {
-            return list.subtype;
+    // Where the body of the first item of a main type stands in the input.
+    pub fn offset_of(&self, main_type: MainType) -> Option<usize>
+        ensures { result ≡ offset_in self.now.offsets main_type }
+    {
+        self.offsets[main_type as usize]
+    }
+
+    // Whether a unit has the subtype of the SEMANTIC and CONTENT units so far, if it is one.
+    #[tactic(auto, unfolding(crate::specs::Summary::shares))]
+    fn shares(&self, main_type: MainType, subtype: u32) -> bool
+        ensures { result ≡ shares self.now.subtype main_type subtype }
+    {
+        match self.subtype {
+            Some(first) => !main_type.takes_subtype() || first == subtype,
+            None => true,
         }
-        return subtype;
     }
-    list.subtype
-}
 
-// The offset of a main type's body, unless an item before has it.
-fn with_offset(offsets: [usize; 7], main_type: MainType, offset: usize) -> [usize; 7]
-    requires { main_type.number < 7 }
-    ensures { result ≡ with_offset offsets main_type.number offset }
-{
-    let number = main_type.number() as usize;
-    let mut after = offsets;
-    if after[number] == 0 {
-        after[number] = offset;
+    // The subtype of the first SEMANTIC or CONTENT unit, one item later.
+    #[tactic(auto, unfolding(crate::specs::Summary::subtype_after))]
+    fn subtype_after(&self, main_type: MainType, subtype: u32) -> Option<u32>
+        ensures { result ≡ subtype_after self.now.subtype main_type subtype }
+    {
+        match self.subtype {
+            Some(first) => Some(first),
+            None => {
+                if main_type.takes_subtype() {
+                    return Some(subtype);
+                }
+                None
+            }
+        }
     }
-    after
-}
 
-// One item later: an item of this main type and subtype, whose body is of `size` bytes and stands at `offset` in the input.
-pub(crate) fn add(
-    list: Summary,
-    main_type: MainType,
-    subtype: u32,
-    size: usize,
-    offset: usize,
-) -> Summary
-    requires { (main_type.number < 7) × (list.count < 18446744073709551615) }
-    ensures { result ≡ added list main_type.number subtype size offset }
-{
-    let number = main_type.number() as usize;
-    let count = list.count;
-    let offsets = list.offsets;
-    Summary {
-        count: count + 1,
-        not_joinable: advance(list.not_joinable, count, is_joinable(main_type)),
-        not_64_bits: advance(list.not_64_bits, count, size == 8),
-        repeated: advance(list.repeated, count, offsets[number] == 0),
-        clash: advance(list.clash, count, is_shared(list, main_type, subtype)),
-        subtype: subtype_after(list, main_type, subtype),
-        offsets: with_offset(offsets, main_type, offset),
+    // One item later: an item of this main type and subtype, whose body is of `size` bytes and stands at `offset` in the input.
+    #[tactic(auto, unfolding(crate::specs::Summary::added, crate::specs::Summary::with_offset))]
+    pub(crate) fn add(&mut self, main_type: MainType, subtype: u32, size: usize, offset: usize)
+        requires { self.old.count < 18446744073709551615 }
+        ensures { self.new ≡ added self.old main_type subtype size offset }
+    {
+        let number = main_type as usize;
+        let is_first = self.offset_of(main_type).is_none();
+        self.not_joinable = advance(self.not_joinable, self.count, is_joinable(main_type));
+        self.not_64_bits = advance(self.not_64_bits, self.count, size == 8);
+        self.repeated = advance(self.repeated, self.count, is_first);
+        self.clash = advance(self.clash, self.count, self.shares(main_type, subtype));
+        self.subtype = self.subtype_after(main_type, subtype);
+        if is_first {
+            self.offsets[number] = Some(offset);
+        }
+        self.count += 1;
     }
 }

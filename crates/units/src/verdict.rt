@@ -2,46 +2,38 @@
 ghost use Rattle.std.specs.Prelude.{◌≡◌};
 ghost use Rattle.units.specs.Verdict.{lacks, decided};
 
-use crate::summary;
 use crate::summary::Summary;
 use iscc::main_type::MainType;
-use iscc::refusal::Refusal;
+use iscc::refusal::{DetailedRefusal, Refusal};
+
+fn missing(main_type: MainType) -> Result<(), DetailedRefusal>
+    ensures { result ≡ lacks main_type }
+{
+    Err(Refusal::LacksDataOrInstance.with_detail(main_type as usize))
+}
 
 // The list makes a composite; or why not, and where: an item's index, or for 13 the number of the main type that is missing.
-#[derive(Clone, Copy)]
-pub enum Verdict {
-    Composite,
-    Refused(Refusal, usize),
-}
-
-fn missing(main_type: MainType) -> Verdict
-    ensures { result ≡ lacks main_type.number }
+#[tactic(auto, unfolding(crate::specs::Verdict::decided))]
+pub fn decide(list: &Summary) -> Result<(), DetailedRefusal>
+    ensures { result ≡ decided list.now }
 {
-    Verdict::Refused(Refusal::LACKS_DATA_OR_INSTANCE, main_type.number() as usize)
-}
-
-pub fn decide(list: Summary) -> Verdict
-    ensures { result ≡ decided list }
-{
-    let count = list.count;
-    if list.not_joinable != count {
-        return Verdict::Refused(Refusal::NOT_JOINABLE, list.not_joinable);
+    if let Some(k) = list.not_joinable {
+        return Err(Refusal::NotJoinable.with_detail(k));
     }
-    if list.not_64_bits != count {
-        return Verdict::Refused(Refusal::NOT_64_BITS, list.not_64_bits);
+    if let Some(k) = list.not_64_bits {
+        return Err(Refusal::Not64Bits.with_detail(k));
     }
-    if list.repeated != count {
-        return Verdict::Refused(Refusal::MAIN_TYPE_TWICE, list.repeated);
+    if let Some(k) = list.repeated {
+        return Err(Refusal::MainTypeTwice.with_detail(k));
     }
-    let offsets = list.offsets;
-    if summary::offset_of(offsets, MainType::DATA) == 0 {
-        return missing(MainType::DATA);
+    if list.offset_of(MainType::Data).is_none() {
+        return missing(MainType::Data);
     }
-    if summary::offset_of(offsets, MainType::INSTANCE) == 0 {
-        return missing(MainType::INSTANCE);
+    if list.offset_of(MainType::Instance).is_none() {
+        return missing(MainType::Instance);
     }
-    if list.clash != count {
-        return Verdict::Refused(Refusal::SUBTYPES_DIFFER, list.clash);
+    if let Some(k) = list.clash {
+        return Err(Refusal::SubtypesDiffer.with_detail(k));
     }
-    Verdict::Composite
+    Ok(())
 }

@@ -8,9 +8,9 @@ use Rattle.answers.proofs.replies.returned.Goals as goal
 pub returns : goal.returns
 unfolding returned_line
 returns c =
-    put_all c.empty.ensures.0
-    (put_then (ascii "returned ") c.put.ensures.0
-    (put_then c.args.text.now c.put-named.ensures.0
-    (put_then (ascii " as record ") c.put-2.ensures.0
-    (put_last (in_decimal c.args.number) c.put_number.ensures.0))))
+    put_all c.new-line.ensures
+    (put_then (ascii "returned ") c.push.ensures
+    (put_then c.args.text.now c.push-2.ensures
+    (put_then (ascii " as record ") c.push-3.ensures
+    (put_last (in_decimal c.args.number) (rw c.from.ensures at c.push_number.ensures)))))
     (length-returned c.args.text.now c.requires c.args.number)

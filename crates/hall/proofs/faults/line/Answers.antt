@@ -9,6 +9,6 @@ use Rattle.hall.proofs.faults.line.Goals as goal
 pub returns : goal.returns
 unfolding fault_line
 returns c =
-    put_all c.empty.ensures.0
-    (put_then (ascii "refused: ") c.put.ensures.0 (put_last (fault_sentence (fault_in c.args.fault)) c.put_sentence.ensures))
+    put_all c.new-line.ensures
+    (put_then (ascii "refused: ") c.push.ensures (put_last (fault_sentence (fault_in c.args.fault)) (rw c.sentence.ensures at c.push-2.ensures)))
     (length-fault (fault_in c.args.fault))

@@ -9,15 +9,15 @@ use Rattle.hall.proofs.serving.issue.Tie as tie
 issued-requires : tie.Need-issued-requires
 issued-requires c κs =
     let bytes = below_all 256 c.args.area.now (λ k _. (c.slice_known-1.given k).fits) in
-    issue-recordable _ bytes _ _ _ c.in-Done.is _ (omega arith) c.issue.ensures.0
+    issue-recordable _ bytes _ _ _ c.in-Ok.is _ (omega arith) c.issue.ensures.0
 
-returns : tie.Need-returns-in-Done
+returns : tie.Need-returns-in-Ok
 returns c =
-    issue-done c.args.text.now c.args.area.now _ _ _ _ _ c.issue.ensures.0 c.issue.ensures.1.1.1 _ _ c.in-Done.is c.issued.ensures
+    issue-done c.args.text.now c.args.area.now _ _ _ _ _ c.issue.ensures.0 c.issue.ensures.1.1.1 _ _ c.in-Ok.is c.issued.ensures
 
-returns-2 : tie.Need-returns-in-Refused
+returns-2 : tie.Need-returns-in-Err
 returns-2 c =
-    issue-refused c.args.text.now c.args.area.now _ _ _ _ _ c.issue.ensures.0 c.issue.ensures.1.1.1 _ c.in-Refused.is c.refused.ensures
+    issue-refused c.args.text.now c.args.area.now _ _ _ _ _ c.issue.ensures.0 c.issue.ensures.1.1.1 _ c.in-Err.is c.refused.ensures
 
 pub issue_spec : {M : Type 1} → statement M
 issue_spec =

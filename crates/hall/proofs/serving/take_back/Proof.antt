@@ -8,15 +8,15 @@ use Rattle.hall.proofs.serving.take_back.Tie as tie
 returned-requires : tie.Need-returned-requires
 returned-requires c κs =
     let bytes = below_all 256 c.args.area.now (λ k _. (c.slice_known-1.given k).fits) in
-    return-recordable _ bytes _ _ _ c.in-Done.is c.take_back.ensures.0
+    return-recordable _ bytes _ _ _ c.in-Ok.is c.take_back.ensures.0
 
-returns : tie.Need-returns-in-Done
+returns : tie.Need-returns-in-Ok
 returns c =
-    return-done c.args.text.now c.args.area.now _ _ _ _ c.take_back.ensures.0 c.take_back.ensures.1.1.1 _ _ c.in-Done.is c.returned.ensures
+    return-done c.args.text.now c.args.area.now _ _ _ _ c.take_back.ensures.0 c.take_back.ensures.1.1.1 _ _ c.in-Ok.is c.returned.ensures
 
-returns-2 : tie.Need-returns-in-Refused
+returns-2 : tie.Need-returns-in-Err
 returns-2 c =
-    return_refused c.args.text.now c.args.area.now _ _ _ _ c.take_back.ensures.0 c.take_back.ensures.1.1.1 _ c.in-Refused.is c.refused.ensures
+    return_refused c.args.text.now c.args.area.now _ _ _ _ c.take_back.ensures.0 c.take_back.ensures.1.1.1 _ c.in-Err.is c.refused.ensures
 
 pub take_back_spec : {M : Type 1} → statement M
 take_back_spec =

@@ -1,4 +1,5 @@
 -- `standby::no`: its parts one behind another.
+use Rattle.iscc.specs.Refusals.{refusal_number}
 use Rattle.std.proofs.Common.{arith}
 use Rattle.iscc.specs.Ascii.{ascii}
 use Rattle.answers.specs.Answers.{in_decimal}
@@ -8,6 +9,6 @@ use Rattle.hall.proofs.standby.no.Goals as goal
 
 pub returns : goal.returns
 returns c =
-    put_all c.empty.ensures.0
-    (put_then (ascii "no ") c.put.ensures.0 (put_last (in_decimal c.args.q.number) c.put_number.ensures.0))
-    (omega (arith, length-decimal c.args.q.number))
+    put_all c.new-line.ensures
+    (put_then (ascii "no ") c.push.ensures (put_last (in_decimal (refusal_number c.args.q)) (rw (c.from.ensures, c.number.ensures) at c.push_number.ensures)))
+    (omega (arith, length-decimal (refusal_number c.args.q)))

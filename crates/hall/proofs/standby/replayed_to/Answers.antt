@@ -1,6 +1,5 @@
--- `standby::replayed_to` meets its contract.
-use mathlib.Core.Path.{ap}
-use native.Mathlib.Omega.{arith}
+-- `standby::replayed_to`: its parts one behind another.
+use Rattle.std.proofs.Common.{ap, ◌∙◌, arith}
 use Rattle.iscc.specs.Ascii.{ascii}
 use Rattle.loans.specs.Contents.{contents_of}
 use Rattle.answers.specs.Answers.{in_decimal}
@@ -12,11 +11,10 @@ use Rattle.hall.proofs.standby.replayed_to.Goals as goal
 pub returns : goal.returns
 unfolding replayed_to
 returns c =
-    let t = contents_of c.args.area.now in
-    put_all c.empty.ensures.0
-    (put_then (ascii "replayed to record ") c.put.ensures.0
-    (put_same (in_decimal c.last.result) c.put_number-record.ensures.0 (ap in_decimal c.last.ensures)
-    (put_then (ascii ", ") c.put-2.ensures.0
-    (put_same (in_decimal c.codes_out.result) c.put_number-out.ensures.0 (ap in_decimal c.codes_out.ensures.0)
-    (put_last (ascii " out") c.put-3.ensures.0)))))
-    (omega (arith, length-replayed t))
+    put_all c.new-line.ensures
+    (put_then (ascii "replayed to record ") c.push.ensures
+    (put_same (in_decimal c.from.result) c.push_number.ensures (ap in_decimal (c.from.ensures ∙ c.last_number.ensures))
+    (put_then (ascii ", ") c.push-2.ensures
+    (put_same (in_decimal c.codes_out.result) c.push_number-2.ensures (ap in_decimal c.codes_out.ensures.0)
+    (put_last (ascii " out") c.push-3.ensures)))))
+    (omega (arith, length-replayed (contents_of c.args.register.area.now)))

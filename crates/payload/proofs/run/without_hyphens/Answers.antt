@@ -7,7 +7,7 @@ use Rattle.payload.proofs.run.without_hyphens.Goals as goal
 
 pub overflow_add-result : goal.overflow_add-result
 overflow_add-result c =
-    let l = front_fits c.args.typed.now c.args.front (record { within = c.requires.0; none = c.requires.1 }) c.drop_hyphens.ensures in
+    let l = front_fits c.args.typed.now c.args.front (record { within = c.requires.within; none = c.requires.plain }) c.drop_hyphens.ensures in
     omega (arith, l)
 
 copied : (typed area front : List ℕ) (n : ℕ) → n ≤ length typed → front ≡ take (n - 0) typed → front ++ post_of 0 (n - 0) area ≡ take (length front) front ++ drop (length front) area
@@ -17,6 +17,6 @@ copied typed area front n within same =
 
 pub returns : goal.returns
 returns c =
-    front-written c.args.typed.now c.args.front (record { within = c.requires.0; none = c.requires.1 }) c.copy_from_slice.new.self _ _ c.args.out.now _ c.copy_from_slice.ensures.after
-    (copied c.args.typed.now c.args.out.now c.copy_from_slice.new.self c.args.front c.requires.0 c.copy_from_slice.ensures.after)
+    front-written c.args.typed.now c.args.front (record { within = c.requires.within; none = c.requires.plain }) c.copy_from_slice.new.self _ _ c.args.out.now _ c.copy_from_slice.ensures.after
+    (copied c.args.typed.now c.args.out.now c.copy_from_slice.new.self c.args.front c.requires.within c.copy_from_slice.ensures.after)
     c.drop_hyphens.ensures

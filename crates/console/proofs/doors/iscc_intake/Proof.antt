@@ -1,8 +1,0 @@
--- `iscc_intake` meets its contract: that of the call behind it.
-use borrow.Author.Rules.{rules}
-use Rattle.iscc.proofs.Representation.{outcome-is}
-use Rattle.console.proofs.doors.iscc_intake.Statement.{statement}
-use Rattle.console.proofs.doors.iscc_intake.Tie as tie
-
-pub iscc_intake_spec : {M : Type 1} → statement M
-iscc_intake_spec = tie.close (tie.spec (λ c κs. search rules) (λ c κs. search rules) (λ c. search rules) (λ c. (search outcome-is, search rules)))

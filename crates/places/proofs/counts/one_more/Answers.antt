@@ -1,0 +1,8 @@
+-- `counts::one_more` meets its contract.
+use Rattle.std.proofs.Common.{ℕ, ◌+◌, ap}
+use Rattle.places.proofs.Counting.{counted-more}
+use Rattle.places.proofs.counts.one_more.Goals as goal
+
+pub returns : goal.returns
+returns c =
+    counted-more _ _ _ _ _ _ _ (ap (λ (m : ℕ). m + 1) c.number.ensures) c.read-of_type.ensures.0 c.read-out.ensures.0 c.write.ensures c.write-2.ensures

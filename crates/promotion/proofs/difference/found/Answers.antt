@@ -1,6 +1,0 @@
--- `difference::found`: a code that is copied.
-use Rattle.promotion.proofs.Answers.{copied}
-use Rattle.promotion.proofs.difference.found.Goals as goal
-
-pub returns : goal.returns
-returns c = copied _ _ _ c.code-code.ensures.0 c.copy_from_slice.ensures.after
