@@ -65,7 +65,7 @@ def open_document(path: str) -> Document:
 
 # Notes of past landings, of the port and of the design pass stay as they landed: they speak of their time, and names may be gone. A
 # landing adds the note before its own.
-LANDED = ("ground", "friendly", *"abcdefgh", "halls")
+LANDED = ("ground", "friendly", *"abcdefgh", "halls", "port")
 PAST = {"docs/PORT.md", "docs/DESIGN-PASS.md", *(f"docs/landings/{name}.md" for name in LANDED)}
 
 
