@@ -1,6 +1,7 @@
 -- The labels of the specification hold, by computation.
 use mathlib.Core.Path.{refl}
 use mathlib.Core.List.{flatten}
+use Rattle.iscc.specs.NamedNumbers.{is_named}
 use Rattle.iscc.specs.Lists.{every, pairwise, cut, same_bytes}
 use Rattle.iscc.specs.Digits.{digits, value, all_below, digit_count, to_digits, byte_count, spare_count, from_digits}
 use Rattle.iscc.specs.Alphabet.{upper, index_of, char_in, digit_in, encode, decode}
@@ -17,7 +18,7 @@ use Rattle.iscc.specs.Labels.{ProvedLabels, RunLabels, PinnedDefinitions}
 use lib.Ieee.{of_int, div}
 
 pub proved-labels : ProvedLabels
-unfolding digits value all_below digit_count to_digits byte_count spare_count from_digits upper index_of char_in digit_in encode decode base32 first_of prefix_of row_of row_by varnibble write_varnibble read_varnibble nibbles packed header_bytes raw_header read_header type_of main_type_of sets set_of unit_types composite_subtype is_wide row body_bytes item_bytes read_item read_one cut composite_of wide_of meaning_as unit_length_number flatten item_of read_up_to read_items every pairwise body_in subtype_in subtype_of composite_from meaning_of_items is_blank trim_start trim_end same_bytes scheme scheme_length drop_hyphens trimmed behind_scheme cleaned decode_run payload items_of_text meaning_of_text text_of intake bits_of differing_positions ratio_of differing_bits compared_bits comparable distance of_int div
+unfolding is_named digits value all_below digit_count to_digits byte_count spare_count from_digits upper index_of char_in digit_in encode decode base32 first_of prefix_of row_of row_by varnibble write_varnibble read_varnibble nibbles packed header_bytes raw_header read_header type_of main_type_of sets set_of unit_types composite_subtype is_wide row body_bytes item_bytes read_item read_one cut composite_of wide_of meaning_as unit_length_number flatten item_of read_up_to read_items every pairwise body_in subtype_in subtype_of composite_from meaning_of_items is_blank trim_start trim_end same_bytes scheme scheme_length drop_hyphens trimmed behind_scheme cleaned decode_run payload items_of_text meaning_of_text text_of intake bits_of differing_positions ratio_of differing_bits compared_bits comparable distance of_int div
 proved-labels =
     record {
       number7 = refl;
@@ -39,7 +40,7 @@ proved-labels =
     }
 
 pub run-labels : RunLabels
-unfolding digits value all_below digit_count to_digits byte_count spare_count from_digits upper index_of char_in digit_in encode decode base32 first_of prefix_of row_of row_by varnibble read_varnibble nibbles packed header_bytes read_header type_of main_type_of sets set_of unit_types composite_subtype is_wide row body_bytes item_bytes read_item cut composite_of wide_of meaning_as unit_length_number flatten item_of read_up_to read_items every pairwise body_in subtype_in subtype_of composite_from meaning_of_items is_blank trim_start trim_end same_bytes scheme scheme_length drop_hyphens trimmed behind_scheme cleaned decode_run payload items_of_text meaning_of_text text_of intake lines_of decimal refused_word line_answer line_answers line_program
+unfolding is_named digits value all_below digit_count to_digits byte_count spare_count from_digits upper index_of char_in digit_in encode decode base32 first_of prefix_of row_of row_by varnibble read_varnibble nibbles packed header_bytes read_header type_of main_type_of sets set_of unit_types composite_subtype is_wide row body_bytes item_bytes read_item cut composite_of wide_of meaning_as unit_length_number flatten item_of read_up_to read_items every pairwise body_in subtype_in subtype_of composite_from meaning_of_items is_blank trim_start trim_end same_bytes scheme scheme_length drop_hyphens trimmed behind_scheme cleaned decode_run payload items_of_text meaning_of_text text_of intake lines_of decimal refused_word line_answer line_answers line_program
 run-labels =
     record {
       no_colon = refl;
@@ -61,7 +62,7 @@ run-labels =
     }
 
 pub pinned : PinnedDefinitions
-unfolding digits value all_below digit_count to_digits byte_count spare_count from_digits upper index_of char_in digit_in encode decode base32 first_of prefix_of row_of row_by varnibble read_varnibble nibbles packed header_bytes read_header type_of main_type_of row body_bytes item_bytes read_item read_one unit_bytes meaning_as unit_length_number item_of read_up_to read_items meaning_of_items is_blank trim_start trim_end same_bytes scheme scheme_length drop_hyphens trimmed behind_scheme cleaned decode_run payload items_of_text meaning_of_text text_of intake bits_of differing_positions ratio_of differing_bits compared_bits comparable distance of_int div
+unfolding is_named digits value all_below digit_count to_digits byte_count spare_count from_digits upper index_of char_in digit_in encode decode base32 first_of prefix_of row_of row_by varnibble read_varnibble nibbles packed header_bytes read_header type_of main_type_of row body_bytes item_bytes read_item read_one unit_bytes meaning_as unit_length_number item_of read_up_to read_items meaning_of_items is_blank trim_start trim_end same_bytes scheme scheme_length drop_hyphens trimmed behind_scheme cleaned decode_run payload items_of_text meaning_of_text text_of intake bits_of differing_positions ratio_of differing_bits compared_bits comparable distance of_int div
 pinned =
     record {
       shorter_first = refl;

@@ -1,5 +1,6 @@
 -- The laws of the definitions, proved once and cited by the proofs of the crates above.
 pub mod Booleans
+pub mod Refusals
 pub mod Cases
 pub mod Answer
 pub mod Digits

@@ -1,6 +1,7 @@
 -- The specification, docs/SPECIFICATION.md, as definitions: first what they are written with (refusals by name, answers, lists,
 -- text, digits, alphabets, base32), then its sections in their order, but the order of refusals behind them, since it is that of
 -- every call; then what is promised of them: codes and texts, the demands; then the code's types as their values, and the labels.
+pub mod NamedNumbers
 pub mod Refusals
 pub mod Detailed
 pub mod Answer

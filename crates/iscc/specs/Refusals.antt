@@ -1,5 +1,6 @@
 -- The specification, "Numbers of refusal and their order": each number of the table, under a name.
-use Rattle.std.specs.Prelude.{ℕ, cond, List, [], ◌∷◌, eqb}
+use Rattle.std.specs.Prelude.{ℕ, ◌≡◌, refl, Bool, true, false, cond, List, [], ◌∷◌, eqb}
+use Rattle.iscc.specs.NamedNumbers.{is_named}
 use Rattle.iscc.specs.declared.refusal.Refusal as code
 use Rattle.iscc.specs.declared.refusal.Refusal.TheVariants as declared
 
@@ -38,6 +39,7 @@ refusal_number declared.NumbersSpent = 26
 refusal_number declared.LastNumbersDiffer = 27
 refusal_number declared.LogTorn = 36
 refusal_number declared.LoansDiffer = 37
+refusal_number (declared.Other n) = n.number
 
 -- nothing is left after the dropping
 abbrev pub empty_text : Refusal
@@ -189,10 +191,15 @@ refusals =
     ∷ loans_differ
     ∷ []
 
--- the refusal of a number, as examples write it
+-- the first of a list that has the number; no number of the table gets to its end
 abbrev pub numbered : ℕ → List Refusal → Refusal
 numbered n [] = empty_text
 numbered n (q ∷ qs) = cond (eqb (refusal_number q) n) q (numbered n qs)
 
+abbrev pub refusal_if : (n : ℕ) (named : Bool) → is_named n ≡ named → Refusal
+refusal_if n true e = numbered n refusals
+refusal_if n false e = declared.Other (record { number = n; other = e })
+
+-- the refusal of a number, as examples write it: each number has one
 abbrev pub refusal : ℕ → Refusal
-refusal n = numbered n refusals
+refusal n = refusal_if n (is_named n) refl

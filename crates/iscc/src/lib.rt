@@ -3,5 +3,6 @@
 
 pub mod code;
 pub mod main_type;
+pub mod other_number;
 pub mod outcome;
 pub mod refusal;

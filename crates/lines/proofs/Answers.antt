@@ -19,7 +19,13 @@ use Rattle.iscc.proofs.Answer.{accepted-value}
 use Rattle.iscc.proofs.Area as area
 use Rattle.iscc.proofs.Area.{one_written, length-written, all-written}
 use Rattle.iscc.proofs.Doors.{meant, short}
+use Rattle.iscc.proofs.Numbers.{intake-numbered, number-table}
 use Rattle.lines.specs.Feeding.{answer_line}
+
+-- ---- no number that intake gives is above 99
+
+pub refusal-small : (t : List ℕ) (area : ℕ) (q : Refusal) → intake t area ≡ refuse q → refusal_number q < 100
+refusal-small t area q e = omega (arith, (number-table (intake t area) (intake-numbered t area) q e).1)
 
 -- ---- any area of 73 bytes is as good as another
 
@@ -85,13 +91,13 @@ module _ (t d a : List ℕ) (w : Written) (room : 74 ≤ length d) (answer : w �
           (omega (arith, length-written v), r.0, r.1)
       go (refuse q) i l f = let z : ◌≡◌ {A = ℕ} 0 1 = cc in absurd (omega arith)
 
-  pub refusal-answered : (q : Refusal) → w ≡ Err q → (a ≡ d) × (answer_line t ≡ line_answer (refuse q) ++ (10 ∷ []))
+  pub refusal-answered : (q : Refusal) → w ≡ Err q → (refusal_number q < 100) × (a ≡ d) × (answer_line t ≡ line_answer (refuse q) ++ (10 ∷ []))
   unfolding answer_line
   refusal-answered q e = go (intake t 73) refl (sym e ∙ answer-is) after_is
     where
-      go : (x : Answer (List ℕ)) → intake t 73 ≡ x → Err q ≡ written_as x → a ≡ area_after x d → (a ≡ d) × (line_answer x ++ (10 ∷ []) ≡ line_answer (refuse q) ++ (10 ∷ []))
+      go : (x : Answer (List ℕ)) → intake t 73 ≡ x → Err q ≡ written_as x → a ≡ area_after x d → (refusal_number q < 100) × (a ≡ d) × (line_answer x ++ (10 ∷ []) ≡ line_answer (refuse q) ++ (10 ∷ []))
       go (accept out) i l f = let z : ◌≡◌ {A = ℕ} 0 1 = cc in absurd (omega arith)
-      go (refuse r) i l f = let k : r ≡ q = cc in (f, ap (λ (s : Refusal). line_answer (refuse s) ++ (10 ∷ [])) k)
+      go (refuse r) i l f = let k : r ≡ q = cc in (refusal-small t 73 q (i ∙ ap refuse k), f, ap (λ (s : Refusal). line_answer (refuse s) ++ (10 ∷ [])) k)
 
 -- the answer of a refused line, written to an area, is the line's answer
 pub refused-answer : (t d a b : List ℕ) (q : Refusal) (n : ℕ) → a ≡ d → answer_line t ≡ line_answer (refuse q) ++ (10 ∷ []) → n ≡ length (line_answer (refuse q) ++ (10 ∷ []))

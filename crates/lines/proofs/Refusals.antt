@@ -1,6 +1,5 @@
 -- The answer to a line that is refused: the word, the number's digits and LF.
 use Rattle.iscc.specs.Refusals.{Refusal, refusal_number}
-use Rattle.iscc.specs.declared.refusal.Refusal.TheVariants as declared
 use Prim.Native.Nat.{ℕ, ◌+◌, ◌/◌, ◌%◌, ◌≤◌, ◌<◌}
 use mathlib.Core.Path.{◌≡◌, refl, ◌∙◌, ap}
 use mathlib.Core.List.{List, [], ◌∷◌, ◌++◌}
@@ -16,39 +15,7 @@ use Rattle.iscc.specs.Lines.{decimal, refused_word, line_answer}
 use Rattle.iscc.proofs.Area.{WrittenFront, one_written, length-written, all-written}
 use Rattle.iscc.proofs.Filling.{more-written}
 
--- every number of refusal is below 100
-small : (q : Refusal) → refusal_number q < 100
-small declared.EmptyText = omega arith
-small declared.LongText = omega arith
-small declared.LongRun = omega arith
-small declared.BadCharacter = omega arith
-small declared.BadCount = omega arith
-small declared.SpareBits = omega arith
-small declared.BadHeader = omega arith
-small declared.NotPermitted = omega arith
-small declared.ShortBody = omega arith
-small declared.NotJoinable = omega arith
-small declared.Not64Bits = omega arith
-small declared.MainTypeTwice = omega arith
-small declared.LacksDataOrInstance = omega arith
-small declared.SubtypesDiffer = omega arith
-small declared.AreaTooShort = omega arith
-small declared.OtherText = omega arith
-small declared.NumberTooLarge = omega arith
-small declared.NoDistance = omega arith
-small declared.BytesLeftOver = omega arith
-small declared.AlreadyOut = omega arith
-small declared.AllOut = omega arith
-small declared.NotOut = omega arith
-small declared.NotRegister = omega arith
-small declared.NotRecord = omega arith
-small declared.NumberGap = omega arith
-small declared.NumbersSpent = omega arith
-small declared.LastNumbersDiffer = omega arith
-small declared.LogTorn = omega arith
-small declared.LoansDiffer = omega arith
-
--- std's digits of such a number
+-- std's digits of a number below 100
 digits_are : (n : ℕ) → n < 100 → std.decimal n ≡ decimal n
 unfolding decimal
 digits_are n h = decimal_by_steps (λ m ds. m < 100 → ds ≡ decimal m) one more n (omega (arith, h)) h
@@ -71,26 +38,26 @@ pub record Refusing (q : Refusal) (d : List ℕ) (n : ℕ) (a : List ℕ) : Type
   pub answer : n ≡ length (line_answer (refuse q) ++ (10 ∷ []))
   pub area : a ≡ area_after (accept (line_answer (refuse q) ++ (10 ∷ []))) d
 
-pub number_fits : (q : Refusal) (t : List ℕ) → t ≡ std.decimal (refusal_number q) → length t ≤ 2
-number_fits q t e = let s = small q in omega (arith, ap length (e ∙ digits_are (refusal_number q) s), two_digits (refusal_number q) s)
+pub number_fits : (q : Refusal) (t : List ℕ) → refusal_number q < 100 → t ≡ std.decimal (refusal_number q) → length t ≤ 2
+number_fits q t s e = omega (arith, ap length (e ∙ digits_are (refusal_number q) s), two_digits (refusal_number q) s)
 
-module _ (q : Refusal) (d area : List ℕ) (room : 11 ≤ length d) (word : area ≡ refused_word ++ drop 8 d) (t after : List ℕ) (k : ℕ)
+module _ (q : Refusal) (small : refusal_number q < 100) (d area : List ℕ) (room : 11 ≤ length d) (word : area ≡ refused_word ++ drop 8 d) (t after : List ℕ) (k : ℕ)
     (number : t ≡ std.decimal (refusal_number q)) (all : k ≡ length t) (copied : after ≡ take 8 area ++ (t ++ drop k (drop 8 area))) where
   begun : WrittenFront refused_word d area 8
   unfolding refused_word
   begun = record { count = refl; room = omega arith; is = word }
 
   with_number : WrittenFront (refused_word ++ t) d after (8 + length t)
-  with_number = more-written (length t) t begun refl (omega (arith, number_fits q t number)) (copied ∙ rw (all, drop-drop (length t) 8 area))
+  with_number = more-written (length t) t begun refl (omega (arith, number_fits q t small number)) (copied ∙ rw (all, drop-drop (length t) 8 area))
 
   pub last_fits : 8 + length t < length after
-  last_fits = omega (arith, length-written with_number, number_fits q t number)
+  last_fits = omega (arith, length-written with_number, number_fits q t small number)
 
   pub refusing : Refusing q d (8 + length t + 1) (set after (8 + length t) 10)
   unfolding line_answer
   refusing =
-      let w = all-written (one_written 10 with_number (omega (arith, number_fits q t number))) in
-      let e : refused_word ++ t ≡ line_answer (refuse q) = ap (λ (l : List ℕ). refused_word ++ l) (number ∙ digits_are (refusal_number q) (small q)) in
+      let w = all-written (one_written 10 with_number (omega (arith, number_fits q t small number))) in
+      let e : refused_word ++ t ≡ line_answer (refuse q) = ap (λ (l : List ℕ). refused_word ++ l) (number ∙ digits_are (refusal_number q) small) in
       record {
         answer = w.0 ∙ ap (λ (l : List ℕ). length (l ++ (10 ∷ []))) e;
         area = w.1 ∙ ap (λ (l : List ℕ). area_after (accept (l ++ (10 ∷ []))) d) e;

@@ -1,5 +1,6 @@
 // The answer to a line that intake refuses.
 ghost use Rattle.std.specs.Prelude.{◌≡◌, [], ◌∷◌, ◌++◌, ◌≤◌, ◌<◌, length, drop};
+ghost use Rattle.iscc.specs.Refusals.{refusal_number};
 ghost use Rattle.iscc.specs.Answer.{accept, refuse, area_after};
 ghost use Rattle.iscc.specs.Lines.{refused_word, line_answer};
 
@@ -19,7 +20,8 @@ fn put_word(out: &mut [u8])
 
 // Writes the word, the number in decimal and LF to the front of the area, and answers how many bytes these are.
 pub(crate) fn write(q: Refusal, out: &mut [u8]) -> usize
-    requires { 11 ≤ length out.old }
+    requires number { refusal_number q < 100 }
+    requires room { 11 ≤ length out.old }
     ensures answer { result ≡ length (line_answer (refuse q) ++ (10 ∷ [])) }
     ensures area { out.new ≡ area_after (accept (line_answer (refuse q) ++ (10 ∷ []))) out.old }
 {
