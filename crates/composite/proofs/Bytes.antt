@@ -13,7 +13,7 @@ use Rattle.iscc.specs.Refusals.{area_too_short}
 use Rattle.iscc.specs.Answer.{accept, into, area_after}
 use Rattle.iscc.specs.Header.{header_bytes}
 use Rattle.iscc.specs.Permitted.{number, Set, set_of, unit_count}
-use Rattle.iscc.specs.declared.main_type.MainType.TheVariants.{Iscc}
+use Rattle.iscc.specs.declared.main_type.Name.TheVariants.{Iscc}
 use Rattle.iscc.specs.Meaning.{composite, Sized, Permitted}
 use Rattle.iscc.specs.Item.{item_bytes, item_of}
 use Rattle.iscc.specs.Representation.{written_as}

@@ -14,7 +14,7 @@ use lib.Dec.{lit<}
 use borrow.Author.Tests.{eqb-true}
 use Rattle.iscc.specs.Lists.{All, every, pairwise}
 use Rattle.iscc.specs.Permitted.{Set, set_of, set_length_number, unit_types, unit_count}
-use Rattle.iscc.specs.declared.main_type.MainType.TheVariants.{Meta, Semantic, Content, Id}
+use Rattle.iscc.specs.declared.main_type.Name.TheVariants.{Meta, Semantic, Content, Id}
 use Rattle.iscc.specs.Meaning.{Meaning, Sized, Permitted, PermittedComposite}
 use Rattle.iscc.specs.Item.{Item}
 use Rattle.iscc.specs.Items.{has_subtype, shared_subtype, body_in, subtype_in, is_in, bytes_in, has, set_in, bodies_in, subtype_of}

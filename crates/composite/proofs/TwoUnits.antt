@@ -8,7 +8,7 @@ use lib.ListN.{length, take, drop, length-append, length-drop}
 use lib.Seq.{length-take-le}
 use Rattle.iscc.specs.Answer.{accept, area_after}
 use Rattle.iscc.specs.Permitted.{MainType, is_unit, row, body_bytes}
-use Rattle.iscc.specs.declared.main_type.MainType.TheVariants.{Data, Instance}
+use Rattle.iscc.specs.declared.main_type.Name.TheVariants.{Data, Instance}
 use Rattle.iscc.specs.Item.{item_bytes, write_unit}
 use Rattle.iscc.specs.Items.{unit128}
 use Rattle.iscc.proofs.Parts.{over-twice}

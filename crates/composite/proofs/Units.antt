@@ -12,7 +12,7 @@ use Rattle.iscc.specs.Refusals.{Refusal, not_permitted}
 use Rattle.iscc.specs.Answer.{accept, refuse, ◌>>=◌, area_after}
 use Rattle.iscc.specs.Digits.{Below}
 use Rattle.iscc.specs.Permitted.{MainType, is_unit, Set, set_of, set_length_number, unit_types, unit_count, composite_subtype, is_wide, row, permits, body_bytes}
-use Rattle.iscc.specs.declared.main_type.MainType.TheVariants.{Meta, Semantic, Content, Data, Instance, Iscc, Id}
+use Rattle.iscc.specs.declared.main_type.Name.TheVariants.{Meta, Semantic, Content, Data, Instance, Iscc, Id}
 use Rattle.iscc.specs.Meaning.{composite, Permitted}
 use Rattle.iscc.specs.Item.{Item, item_bytes, read_one, write_unit, composite_of, wide_of, meaning_as, meaning_of}
 use Rattle.iscc.specs.Lists.{All}

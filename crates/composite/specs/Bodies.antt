@@ -2,7 +2,7 @@
 use Rattle.std.specs.Prelude.{ℕ, zero, suc, ◌≡◌, ◌≤◌, ◌<◌, true, cond, List, [], ◌∷◌, ◌++◌, get_or, replicate, Option, unwrap_or}
 use Rattle.iscc.specs.Answer.{accept}
 use Rattle.iscc.specs.Permitted.{Set, composite_subtype, set_length_number, unit_count}
-use Rattle.iscc.specs.declared.main_type.MainType.TheVariants.{Meta, Semantic, Content}
+use Rattle.iscc.specs.declared.main_type.Name.TheVariants.{Meta, Semantic, Content}
 use Rattle.iscc.specs.Meaning.{Meaning, unit, composite, wide, Permitted}
 use Rattle.iscc.specs.Item.{Item}
 use Rattle.iscc.specs.Items.{composite_from}

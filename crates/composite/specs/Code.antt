@@ -2,7 +2,7 @@
 use Rattle.std.specs.Prelude.{ℕ, ◌<◌, cond, List, [], ◌++◌, get_or}
 use Rattle.iscc.specs.Header.{Header, header_bytes}
 use Rattle.iscc.specs.Permitted.{MainType, number, set_of, unit_count}
-use Rattle.iscc.specs.declared.main_type.MainType.TheVariants.{Iscc}
+use Rattle.iscc.specs.declared.main_type.Name.TheVariants.{Iscc}
 use Rattle.iscc.specs.Item.{Item, item_bytes}
 use Rattle.iscc.specs.Items.{unit64, takes_subtype}
 use Rattle.tables.specs.Representation.{unit_set_as}

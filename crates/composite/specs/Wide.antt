@@ -1,6 +1,6 @@
 -- A wide composite's own bytes as its two units.
 use Rattle.std.specs.Prelude.{ℕ, List, ◌++◌, take, drop}
-use Rattle.iscc.specs.declared.main_type.MainType.TheVariants.{Data, Instance}
+use Rattle.iscc.specs.declared.main_type.Name.TheVariants.{Data, Instance}
 use Rattle.iscc.specs.Item.{item_bytes}
 use Rattle.iscc.specs.Items.{unit128}
 

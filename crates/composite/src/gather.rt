@@ -23,9 +23,9 @@ fn weight_of(full: usize, list: &Summary, main_type: MainType) -> usize
 fn set_length_number(list: &Summary) -> usize
     ensures { (result ≡ set_length_number (set_of_offsets list.now.offsets)) × (result ≤ 7) }
 {
-    weight_of(4, list, MainType::Meta)
-        + weight_of(2, list, MainType::Semantic)
-        + weight_of(1, list, MainType::Content)
+    weight_of(4, list, MainType::META)
+        + weight_of(2, list, MainType::SEMANTIC)
+        + weight_of(1, list, MainType::CONTENT)
 }
 
 // 5 with neither SEMANTIC nor CONTENT, 6 with META alone, and otherwise the subtype that they share.
@@ -36,7 +36,7 @@ fn subtype_of(list: &Summary) -> u32
     match list.subtype {
         Some(subtype) => subtype,
         None => {
-            if list.offset_of(MainType::Meta).is_some() {
+            if list.offset_of(MainType::META).is_some() {
                 return 6;
             }
             5

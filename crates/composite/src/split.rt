@@ -18,7 +18,7 @@ fn split_item(bytes: &[u8], u: Unit, out: &mut [u8]) -> Result<usize, Refusal>
     ensures answer { result ≡ written_as (items.split bytes.now (length out.old)) }
     ensures area { out.new ≡ area_after (items.split bytes.now (length out.old)) out.old }
 {
-    if u.main_type != MainType::Iscc {
+    if u.main_type != MainType::ISCC {
         return Err(Refusal::NotPermitted);
     }
     if permitted::is_wide(u.subtype, u.length_number) {

@@ -16,7 +16,7 @@ pub(crate) fn write_units(bytes: &[u8], out: &mut [u8]) -> Result<usize, Refusal
     if out.len() < 36 {
         return Err(Refusal::AreaTooShort);
     }
-    let _ = unit::writer::write(MainType::Data, 0, 0, 3, &bytes[2..18], out);
-    let _ = unit::writer::write(MainType::Instance, 0, 0, 3, &bytes[18..34], &mut out[18..]);
+    let _ = unit::writer::write(MainType::DATA, 0, 0, 3, &bytes[2..18], out);
+    let _ = unit::writer::write(MainType::INSTANCE, 0, 0, 3, &bytes[18..34], &mut out[18..]);
     Ok(36)
 }

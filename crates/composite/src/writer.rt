@@ -39,7 +39,7 @@ impl Composite {
         requires { (count ≡ unit_count (set_of self.length_number)) × (2 + count * 8 ≤ length out.old) }
         ensures { out.new ≡ area_after (accept (composite_bytes self)) out.old }
     {
-        out[0] = (MainType::Iscc.number() * 16 + self.subtype) as u8;
+        out[0] = (MainType::ISCC.number() * 16 + self.subtype) as u8;
         out[1] = self.length_number as u8;
         out[2..2 + count * 8].copy_from_slice(self.bodies[..count].as_flattened());
     }

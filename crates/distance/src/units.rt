@@ -5,7 +5,7 @@ ghost use Rattle.distance.specs.Representation.{distance_as, measured_as, body_d
 
 use crate::answer::Distance;
 use crate::bits;
-use iscc::main_type::MainType;
+use iscc::main_type::{MainType, Name};
 use iscc::refusal::Refusal;
 use unit::reader::Unit;
 
@@ -14,8 +14,8 @@ fn has_distance(main_type: MainType) -> bool
     ensures { result ≡ has_distance main_type }
 {
     matches!(
-        main_type,
-        MainType::Meta | MainType::Semantic | MainType::Content | MainType::Data
+        main_type.name(),
+        Name::Meta | Name::Semantic | Name::Content | Name::Data
     )
 }
 
@@ -39,10 +39,12 @@ fn between(a: &[u8], u: Unit, b: &[u8], v: Unit) -> Result<Distance, Refusal>
     requires { Holds a.now u × Holds b.now v }
     ensures { result ≡ measured_as (distance a.now b.now) }
 {
+    let x = &a[u.start..];
+    let y = &b[v.start..];
     if !comparable(u, v) {
         return Err(Refusal::NoDistance);
     }
-    Ok(of_bodies(&a[u.start..], &b[v.start..]))
+    Ok(of_bodies(x, y))
 }
 
 // The distance of u, which was read from a, to the unit in b: 7, 8, 9, 19 on b, then 18.

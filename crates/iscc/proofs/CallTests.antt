@@ -14,7 +14,7 @@ use Rattle.iscc.specs.Base32.{base32, read_base32, write_base32}
 use Rattle.iscc.specs.Varnibble.{varnibble, write_varnibble}
 use Rattle.iscc.specs.Header.{Header, header_bytes, raw_header, write_header}
 use Rattle.iscc.specs.Permitted.{MainType, type_of, main_type_of, is_unit, set_of, is_wide, permits, body_bytes}
-use Rattle.iscc.specs.declared.main_type.MainType.TheVariants.{Meta, Semantic, Content, Data, Instance, Iscc, Id}
+use Rattle.iscc.specs.declared.main_type.Name.TheVariants.{Meta, Semantic, Content, Data, Instance, Iscc, Id}
 use Rattle.iscc.specs.Item.{item_bytes, item_of, composite_of, wide_of, meaning_as, meaning_of, read_one, unit_bytes, write_unit}
 use Rattle.iscc.specs.Items.{same_type, units_of, items_bytes, read_items, meaning_of_items, joined_meaning, joined_bytes, join, split_bytes, split}
 use Rattle.iscc.specs.Doors.{cleaned, decode_run, payload, items_of_text, meaning_of_text, text_of, code_bytes, read_code, write_text, intake, strict}

@@ -14,7 +14,7 @@ use borrow.Author.Tests.{eqb-true, eq-eqb}
 use Rattle.iscc.specs.Answer.{accept}
 use Rattle.iscc.specs.Digits.{digits}
 use Rattle.iscc.specs.Permitted.{MainType, number, permits, body_bytes}
-use Rattle.iscc.specs.declared.main_type.MainType.TheVariants.{Meta, Semantic, Content, Data, Instance, Iscc, Id}
+use Rattle.iscc.specs.declared.main_type.Name.TheVariants.{Meta, Semantic, Content, Data, Instance, Iscc, Id}
 use Rattle.iscc.specs.Item.{Item, read_item, read_one}
 use Rattle.iscc.specs.Items.{same_type}
 use Rattle.iscc.specs.Distance.{Distance, bits_of, differing_positions, differing_bits, compared_bits, ratio_of, has_distance, comparable, distance}

@@ -14,7 +14,7 @@ use Rattle.iscc.specs.Answer.{Answer, accept, ◌>>=◌}
 use Rattle.iscc.specs.Digits.{Below}
 use Rattle.iscc.specs.Varnibble.{Parsed}
 use Rattle.iscc.specs.Permitted.{MainType, number, main_type_of, Set, set_length_number, unit_types, composite_subtype, row}
-use Rattle.iscc.specs.declared.main_type.MainType.TheVariants.{Meta, Semantic, Content, Data, Instance}
+use Rattle.iscc.specs.declared.main_type.Name.TheVariants.{Meta, Semantic, Content, Data, Instance}
 use Rattle.iscc.specs.Meaning.{Meaning, composite, Sized, Permitted}
 use Rattle.iscc.specs.Item.{Item, item_bytes, read_item, meaning_of}
 use Rattle.iscc.specs.Lists.{All, every, pairwise}

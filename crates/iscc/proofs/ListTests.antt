@@ -15,7 +15,7 @@ use Rattle.iscc.specs.Refusals.{not_joinable, not_64_bits, main_type_twice, lack
 use Rattle.iscc.specs.Answer.{Answer, refuse, ◌>>◌, ◌otherwise◌}
 use Rattle.iscc.specs.Lists.{every}
 use Rattle.iscc.specs.Permitted.{MainType, number}
-use Rattle.iscc.specs.declared.main_type.MainType.TheVariants.{Meta, Semantic, Content, Data, Instance, Iscc, Id}
+use Rattle.iscc.specs.declared.main_type.Name.TheVariants.{Meta, Semantic, Content, Data, Instance, Iscc, Id}
 use Rattle.iscc.specs.Item.{Item, meaning_of}
 use Rattle.iscc.specs.Items.{same_type, joinable, is_64_bits, other_type, shared_subtype, body_in, is_in, has, composite_from, meaning_of_items, joined_meaning}
 use Rattle.iscc.specs.Exactly.{Rule, rule}

@@ -7,7 +7,7 @@ use native.Mathlib.Omega.{arith}
 use lib.ListN.{length, length-append, length-drop, take-append-drop}
 use lib.Seq.{take_at, drop_at, length-take-le}
 use Rattle.iscc.specs.Permitted.{MainType, is_unit, set_of, set_length_number, unit_count, is_wide, row, permits, body_bytes}
-use Rattle.iscc.specs.declared.main_type.MainType.TheVariants.{Meta, Semantic, Content, Data, Instance, Iscc, Id}
+use Rattle.iscc.specs.declared.main_type.Name.TheVariants.{Meta, Semantic, Content, Data, Instance, Iscc, Id}
 use Rattle.iscc.specs.Meaning.{Meaning, unit, composite, wide, Sized, Permitted}
 use Rattle.iscc.specs.Item.{Item, composite_of, wide_of, meaning_as, meaning_of, unit_length_number, item_of}
 use Rattle.iscc.proofs.Permitted.{Small, small, unit-or-composite, unit_length_number-back, set_back, set_length_number-back, wide-numbers, not_wide, composite-permits, permits-composite}

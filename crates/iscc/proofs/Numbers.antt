@@ -16,7 +16,7 @@ use Rattle.iscc.specs.Digits.{Below}
 use Rattle.iscc.specs.Alphabet.{encode, decode}
 use Rattle.iscc.specs.Base32.{base32, read_base32, write_base32}
 use Rattle.iscc.specs.Header.{Header, raw_header, write_header, read_header}
-use Rattle.iscc.specs.declared.main_type.MainType.TheVariants.{Iscc}
+use Rattle.iscc.specs.declared.main_type.Name.TheVariants.{Iscc}
 use Rattle.iscc.specs.Item.{Item, read_item, read_one, unit_bytes, write_unit}
 use Rattle.iscc.specs.Items.{same_type, read_items, joined_bytes, split_bytes, join, split}
 use Rattle.iscc.specs.Doors.{payload, meaning_of_text, read_code, write_text, intake, strict}

@@ -1,7 +1,7 @@
 -- The laws of permitted headers, and of the eight sets.
 use denote.Enum.Declared.{tag_of}
 use denote.Enum.Bare.{sameb}
-use Rattle.iscc.specs.contracts.main_type.MainType.{the_type}
+use Rattle.iscc.specs.contracts.main_type.Name.{the_type}
 use Prim.Native.Nat.{ℕ, ◌+◌, ◌*◌, ◌/◌, ◌%◌, ◌≤◌, ◌<◌}
 use mathlib.Core.Path.{◌≡◌, refl, sym, ◌∙◌, ap, ap₂}
 use mathlib.Core.Bool.{Bool, true, false, cond, not, ◌&&◌, ◌||◌}
@@ -14,7 +14,7 @@ use borrow.Author.Tests.{eqb-true, leb-true, ltb-true, lt-ltb, le-leb, eq-eqb, n
 use Rattle.iscc.specs.Answer.{accept}
 use Rattle.iscc.specs.Lists.{All, every, pairwise}
 use Rattle.iscc.specs.Permitted.{MainType, number, is_unit, type_of, main_type_of, Set, sets, set_of, set_length_number, weight, unit_count, only, unit_types, composite_subtype, is_wide, row, permits, body_bytes}
-use Rattle.iscc.specs.declared.main_type.MainType.TheVariants.{Meta, Semantic, Content, Data, Instance, Iscc, Id}
+use Rattle.iscc.specs.declared.main_type.Name.TheVariants.{Meta, Semantic, Content, Data, Instance, Iscc, Id}
 use Rattle.iscc.specs.Item.{unit_length_number}
 use Rattle.iscc.specs.Items.{same_type}
 use Rattle.iscc.proofs.Answer.{accept-inj, passed}

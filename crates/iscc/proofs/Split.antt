@@ -15,7 +15,7 @@ use Rattle.iscc.specs.Refusals.{not_64_bits, lacks_data_or_instance}
 use Rattle.iscc.specs.Digits.{Below}
 use Rattle.iscc.specs.Lists.{All, every, pairwise}
 use Rattle.iscc.specs.Permitted.{MainType, number, Set, unit_types, unit_count, is_wide, row, body_bytes}
-use Rattle.iscc.specs.declared.main_type.MainType.TheVariants.{Meta, Semantic, Content, Data, Instance}
+use Rattle.iscc.specs.declared.main_type.Name.TheVariants.{Meta, Semantic, Content, Data, Instance}
 use Rattle.iscc.specs.Meaning.{Meaning, composite, wide, Sized, Permitted}
 use Rattle.iscc.specs.Item.{Item, item_bytes, read_item, read_one, item_of}
 use Rattle.iscc.specs.Items.{read_items, same_type, joinable, is_64_bits, other_type, takes_subtype, has_subtype, shared_subtype, body_in, subtype_in, is_in, has, set_in, bodies_in, subtype_of, composite_from, joined_meaning, joined_bytes, unit128, unit_with, units_of, items_bytes, split_bytes}

@@ -16,7 +16,7 @@ use Rattle.iscc.specs.Base32.{base32}
 use Rattle.iscc.specs.Varnibble.{parsed}
 use Rattle.iscc.specs.Header.{Header, header_with_numbers, Writable, header_bytes, read_header}
 use Rattle.iscc.specs.Permitted.{MainType, number, composite_subtype, is_wide, row, permits, body_bytes}
-use Rattle.iscc.specs.declared.main_type.MainType.TheVariants.{Meta, Semantic, Content, Data, Instance, Iscc, Id}
+use Rattle.iscc.specs.declared.main_type.Name.TheVariants.{Meta, Semantic, Content, Data, Instance, Iscc, Id}
 use Rattle.iscc.specs.Meaning.{Meaning, wide, Sized, Permitted}
 use Rattle.iscc.specs.Item.{Item, item_bytes, item_of, read_item, read_one, unit_bytes, meaning_of}
 use Rattle.iscc.specs.Items.{same_type, joinable, composite_from, meaning_of_items, joined_meaning, joined_bytes, unit128, split_bytes}

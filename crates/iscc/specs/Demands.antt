@@ -12,7 +12,7 @@ use Rattle.iscc.specs.Base32.{base32, read_base32, write_base32}
 use Rattle.iscc.specs.Varnibble.{Parsed, parsed, varnibble, read_varnibble}
 use Rattle.iscc.specs.Header.{Header, Writable, header_bytes, read_header, write_header}
 use Rattle.iscc.specs.Permitted.{Set, unit_types, is_wide}
-use Rattle.iscc.specs.declared.main_type.MainType.TheVariants.{Data, Instance}
+use Rattle.iscc.specs.declared.main_type.Name.TheVariants.{Data, Instance}
 use Rattle.iscc.specs.Meaning.{Meaning, composite, wide, Permitted}
 use Rattle.iscc.specs.Item.{Item, header_of, item_bytes, read_item, read_one, unit_bytes, write_unit, meaning_of, item_of}
 use Rattle.iscc.specs.Items.{read_items, items_bytes, takes_subtype, unit128, joined_meaning, joined_bytes, split_bytes, join, split}

@@ -6,7 +6,7 @@ use Rattle.iscc.specs.Answer.{Answer, accept, refuse, ◌>>=◌, ◌>>◌, ◌ot
 use Rattle.iscc.specs.Refusals.{no_distance}
 use Rattle.iscc.specs.Digits.{digits}
 use Rattle.iscc.specs.Permitted.{MainType}
-use Rattle.iscc.specs.declared.main_type.MainType.TheVariants.{Meta, Semantic, Content, Data, Instance, Iscc, Id}
+use Rattle.iscc.specs.declared.main_type.Name.TheVariants.{Meta, Semantic, Content, Data, Instance, Iscc, Id}
 use Rattle.iscc.specs.Item.{Item, read_one}
 use Rattle.iscc.specs.Items.{same_type}
 

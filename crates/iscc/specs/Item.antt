@@ -6,7 +6,7 @@ use Rattle.iscc.specs.Refusals.{not_permitted, short_body, bytes_left_over}
 use Rattle.iscc.specs.Varnibble.{Parsed}
 use Rattle.iscc.specs.Header.{Header, header_with_numbers, header_bytes, read_header}
 use Rattle.iscc.specs.Permitted.{MainType, number, main_type_of, is_unit, Set, set_of, set_length_number, unit_count, is_wide, permits, body_bytes}
-use Rattle.iscc.specs.declared.main_type.MainType.TheVariants.{Meta, Semantic, Content, Data, Instance, Iscc, Id}
+use Rattle.iscc.specs.declared.main_type.Name.TheVariants.{Meta, Semantic, Content, Data, Instance, Iscc, Id}
 use Rattle.iscc.specs.Lists.{cut}
 use Rattle.iscc.specs.Meaning.{Meaning, unit, composite, wide}
 

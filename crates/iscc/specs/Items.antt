@@ -6,7 +6,7 @@ use mathlib.Core.List.{List, [], ◌∷◌, ◌++◌, map, zip_with}
 use Rattle.iscc.specs.Answer.{Answer, accept, refuse, ◌>>=◌, ◌>>◌, ◌otherwise◌, into}
 use Rattle.iscc.specs.Refusals.{bad_header, not_permitted, not_joinable, not_64_bits, main_type_twice, lacks_data_or_instance, subtypes_differ}
 use Rattle.iscc.specs.Permitted.{MainType, number, Set, unit_types}
-use Rattle.iscc.specs.declared.main_type.MainType.TheVariants.{Meta, Semantic, Content, Data, Instance, Iscc, Id}
+use Rattle.iscc.specs.declared.main_type.Name.TheVariants.{Meta, Semantic, Content, Data, Instance, Iscc, Id}
 use Rattle.iscc.specs.Meaning.{Meaning, unit, composite, wide}
 use Rattle.iscc.specs.Item.{Item, item_bytes, item_of, read_item, read_one, meaning_of}
 

@@ -8,7 +8,7 @@ use Rattle.iscc.specs.Digits.{digit_count}
 use Rattle.iscc.specs.Varnibble.{write_varnibble}
 use Rattle.iscc.specs.Header.{header_with_numbers, write_header, read_header}
 use Rattle.iscc.specs.Permitted.{number, body_bytes}
-use Rattle.iscc.specs.declared.main_type.MainType.TheVariants.{Iscc, Id}
+use Rattle.iscc.specs.declared.main_type.Name.TheVariants.{Iscc, Id}
 use Rattle.iscc.specs.Item.{read_item, write_unit}
 use Rattle.iscc.specs.Doors.{intake}
 use Rattle.iscc.specs.Distance.{distance}

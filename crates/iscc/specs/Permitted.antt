@@ -2,12 +2,12 @@
 use Rattle.std.specs.Prelude.{ℕ, ◌+◌, ◌*◌, Bool, true, false, cond, ◌&&◌, ◌||◌, List, [], ◌∷◌, ◌++◌, get_or, eqb, leb, ltb}
 use Rattle.iscc.specs.Answer.{Answer, accept, ◌>>◌, ◌otherwise◌}
 use Rattle.iscc.specs.Refusals.{not_permitted}
-use Rattle.iscc.specs.declared.main_type.MainType as declared
-use Rattle.iscc.specs.declared.main_type.MainType.TheVariants.{Meta, Semantic, Content, Data, Instance, Iscc, Id}
+use Rattle.iscc.specs.declared.main_type.Name as declared
+use Rattle.iscc.specs.declared.main_type.Name.TheVariants.{Meta, Semantic, Content, Data, Instance, Iscc, Id}
 
--- a main type is the code's own (src/main_type.rt), and a number in a header
+-- a main type is the code's own name of one (src/main_type.rt), and a number in a header
 abbrev pub MainType : Type 0
-MainType = declared.MainType
+MainType = declared.Name
 
 abbrev pub number : MainType → ℕ
 number Meta = 0

@@ -9,7 +9,7 @@ use Rattle.iscc.specs.Base32.{base32}
 use Rattle.iscc.specs.Varnibble.{Parsed, row_by}
 use Rattle.iscc.specs.Header.{Header, nibbles, raw_header, read_header}
 use Rattle.iscc.specs.Permitted.{number, is_unit, type_of, permits, body_bytes}
-use Rattle.iscc.specs.declared.main_type.MainType.TheVariants.{Data, Instance, Iscc}
+use Rattle.iscc.specs.declared.main_type.Name.TheVariants.{Data, Instance, Iscc}
 use Rattle.iscc.specs.Item.{Item, read_item, read_one, unit_bytes}
 use Rattle.iscc.specs.Items.{same_type, joinable, is_64_bits, other_type, shared_subtype, has, read_items, joined_bytes, split_bytes}
 use Rattle.iscc.specs.Doors.{cleaned, payload, meaning_of_text, text_of}

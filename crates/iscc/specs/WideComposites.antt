@@ -8,7 +8,7 @@ use Rattle.iscc.specs.Base32.{base32}
 use Rattle.iscc.specs.Varnibble.{parsed}
 use Rattle.iscc.specs.Header.{Header, header_with_numbers, Writable, header_bytes}
 use Rattle.iscc.specs.Permitted.{number}
-use Rattle.iscc.specs.declared.main_type.MainType.TheVariants.{Data, Instance, Iscc}
+use Rattle.iscc.specs.declared.main_type.Name.TheVariants.{Data, Instance, Iscc}
 use Rattle.iscc.specs.Meaning.{Meaning, unit, composite, wide, Sized, Permitted}
 use Rattle.iscc.specs.Item.{Item, read_item, read_one, unit_bytes, meaning_of}
 use Rattle.iscc.specs.Items.{meaning_of_items, joined_meaning, joined_bytes, unit128, items_bytes, split_bytes}

@@ -5,10 +5,11 @@ ghost use Rattle.iscc.specs.Permitted.{main_type_of, main_types, number};
 ghost use Rattle.iscc.specs.Representation.{result_of};
 
 use crate::refusal::Refusal;
+use std::marker::Model;
 
-// A main type of the specification, with its number in a header. The definitions in specs/ speak of this very type.
+// The name of a main type, with its number in a header. The definitions in specs/ speak of this very type.
 #[derive(Clone, Copy, Debug, PartialEq, Eq)]
-pub enum MainType {
+pub enum Name {
     Meta = 0,
     Semantic = 1,
     Content = 2,
@@ -18,33 +19,76 @@ pub enum MainType {
     Id = 6,
 }
 
+// A main type of the specification. A contract sees it as its name.
+#[derive(Clone, Copy, Debug, PartialEq, Eq)]
+pub struct MainType {
+    name: Name,
+}
+
+impl Model for MainType {
+    ghost use Rattle.iscc.specs.declared.main_type.Name.{Name};
+
+    ghost Value = { Name };
+
+    ghost view = { λ m. m.name };
+
+    ghost inverse = { λ n. record { name = n } };
+}
+
 impl MainType {
+    pub const META: MainType = MainType { name: Name::Meta };
+
+    pub const SEMANTIC: MainType = MainType {
+        name: Name::Semantic,
+    };
+
+    pub const CONTENT: MainType = MainType {
+        name: Name::Content,
+    };
+
+    pub const DATA: MainType = MainType { name: Name::Data };
+
+    pub const INSTANCE: MainType = MainType {
+        name: Name::Instance,
+    };
+
+    pub const ISCC: MainType = MainType { name: Name::Iscc };
+
+    pub const ID: MainType = MainType { name: Name::Id };
+
     // Every main type in the order of the table: ties the names above to those of the definitions.
     pub fn all() -> [MainType; 7]
         ensures { result ≡ main_types }
     {
         [
-            MainType::Meta,
-            MainType::Semantic,
-            MainType::Content,
-            MainType::Data,
-            MainType::Instance,
-            MainType::Iscc,
-            MainType::Id,
+            MainType::META,
+            MainType::SEMANTIC,
+            MainType::CONTENT,
+            MainType::DATA,
+            MainType::INSTANCE,
+            MainType::ISCC,
+            MainType::ID,
         ]
+    }
+
+    // Its name, which a `match` takes apart.
+    pub fn name(self) -> Name
+        ensures { result ≡ self }
+    {
+        self.name
     }
 
     pub fn number(self) -> u32
         ensures { result ≡ number self }
     {
-        self as u32
+        self.name as u32
     }
 
     // SEMANTIC and CONTENT have subtypes of their own.
     pub fn takes_subtype(self) -> bool
         ensures { result ≡ takes_subtype self }
     {
-        matches!(self, MainType::Semantic | MainType::Content)
+        matches!(self.name, Name::Semantic | Name::Content)
     }
 }
 
@@ -57,13 +101,13 @@ impl TryFrom<u32> for MainType {
     #[tactic(auto, unfolding(crate::specs::Permitted::main_type_of, crate::specs::Permitted::type_of, crate::specs::Representation::result_of))]
     fn try_from(number: u32) -> Result<MainType, Refusal> {
         match number {
-            0 => Ok(MainType::Meta),
-            1 => Ok(MainType::Semantic),
-            2 => Ok(MainType::Content),
-            3 => Ok(MainType::Data),
-            4 => Ok(MainType::Instance),
-            5 => Ok(MainType::Iscc),
-            6 => Ok(MainType::Id),
+            0 => Ok(MainType::META),
+            1 => Ok(MainType::SEMANTIC),
+            2 => Ok(MainType::CONTENT),
+            3 => Ok(MainType::DATA),
+            4 => Ok(MainType::INSTANCE),
+            5 => Ok(MainType::ISCC),
+            6 => Ok(MainType::ID),
             _ => Err(Refusal::NotPermitted),
         }
     }

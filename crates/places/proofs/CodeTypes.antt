@@ -10,7 +10,7 @@ use Rattle.std.specs.Prelude.{Result, Ok, Err}
 use Rattle.std.specs.Result.{is_ok}
 use Rattle.iscc.specs.Digits.{Below}
 use Rattle.iscc.specs.Permitted.{MainType, number, type_of, main_type_of}
-use Rattle.iscc.specs.declared.main_type.MainType.TheVariants.{Id}
+use Rattle.iscc.specs.declared.main_type.Name.TheVariants.{Id}
 use Rattle.iscc.specs.Refusals.{Refusal}
 use Rattle.iscc.specs.Representation.{result_of}
 use Rattle.iscc.proofs.Permitted.{number-type}

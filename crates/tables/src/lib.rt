@@ -7,7 +7,6 @@ ghost use Rattle.iscc.specs.Permitted.{set_of, unit_count};
 ghost use Rattle.tables.specs.Representation.{unit_set_as};
 
 use iscc::main_type::MainType;
-use iscc::main_type::MainType::{Content, Data, Id, Instance, Meta, Semantic};
 
 const ALPHABET: [u8; 32] = *b"ABCDEFGHIJKLMNOPQRSTUVWXYZ234567";
 
@@ -26,38 +25,50 @@ pub struct UnitSet {
     pub count: u8,
 }
 
+const META: MainType = MainType::META;
+
+const SEMANTIC: MainType = MainType::SEMANTIC;
+
+const CONTENT: MainType = MainType::CONTENT;
+
+const DATA: MainType = MainType::DATA;
+
+const INSTANCE: MainType = MainType::INSTANCE;
+
+const FILL: MainType = MainType::ID;
+
 // By the composite's length number: 4 if META is in, plus 2 if SEMANTIC is in, plus 1 if CONTENT is in.
 const SETS: [UnitSet; 8] = [
     UnitSet {
-        units: [Data, Instance, Id, Id, Id],
+        units: [DATA, INSTANCE, FILL, FILL, FILL],
         count: 2,
     },
     UnitSet {
-        units: [Content, Data, Instance, Id, Id],
+        units: [CONTENT, DATA, INSTANCE, FILL, FILL],
         count: 3,
     },
     UnitSet {
-        units: [Semantic, Data, Instance, Id, Id],
+        units: [SEMANTIC, DATA, INSTANCE, FILL, FILL],
         count: 3,
     },
     UnitSet {
-        units: [Semantic, Content, Data, Instance, Id],
+        units: [SEMANTIC, CONTENT, DATA, INSTANCE, FILL],
         count: 4,
     },
     UnitSet {
-        units: [Meta, Data, Instance, Id, Id],
+        units: [META, DATA, INSTANCE, FILL, FILL],
         count: 3,
     },
     UnitSet {
-        units: [Meta, Content, Data, Instance, Id],
+        units: [META, CONTENT, DATA, INSTANCE, FILL],
         count: 4,
     },
     UnitSet {
-        units: [Meta, Semantic, Data, Instance, Id],
+        units: [META, SEMANTIC, DATA, INSTANCE, FILL],
         count: 4,
     },
     UnitSet {
-        units: [Meta, Semantic, Content, Data, Instance],
+        units: [META, SEMANTIC, CONTENT, DATA, INSTANCE],
         count: 5,
     },
 ];

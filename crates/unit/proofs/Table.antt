@@ -5,7 +5,7 @@ use mathlib.Core.Bool.{Bool, true, false, cond, and-true, and-false}
 use native.Mathlib.Omega.{arith}
 use lib.Dec.{eqb}
 use Rattle.iscc.specs.Permitted.{MainType, is_wide, row, permits, sets, set_of, unit_count, body_bytes}
-use Rattle.iscc.specs.declared.main_type.MainType.TheVariants.{Iscc}
+use Rattle.iscc.specs.declared.main_type.Name.TheVariants.{Iscc}
 use Rattle.iscc.proofs.Permitted.{wide-numbers, count_most}
 
 units-bytes : (s l k : ℕ) (b : Bool) → is_wide s l ≡ b → k ≡ unit_count (set_of l) → (k * cond b 16 8 ≡ cond b 32 (unit_count (set_of l) * 8)) × (k * cond b 16 8 ≤ 40)

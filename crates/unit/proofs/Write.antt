@@ -13,7 +13,7 @@ use Rattle.iscc.specs.Answer.{Answer, accept, refuse, ◌>>◌, ◌otherwise◌,
 use Rattle.iscc.specs.Refusals.{not_permitted, short_body, area_too_short}
 use Rattle.iscc.specs.Header.{Header, header_with_numbers, header_bytes, write_header}
 use Rattle.iscc.specs.Permitted.{MainType, number, type_of, main_type_of, is_unit, permits, body_bytes}
-use Rattle.iscc.specs.declared.main_type.MainType.TheVariants.{Meta, Semantic, Content, Data, Instance, Iscc, Id}
+use Rattle.iscc.specs.declared.main_type.Name.TheVariants.{Meta, Semantic, Content, Data, Instance, Iscc, Id}
 use Rattle.iscc.specs.Item.{unit_bytes, write_unit}
 use Rattle.iscc.specs.Representation.{written_as}
 use Rattle.iscc.specs.Representation.{Written}

@@ -1,9 +1,9 @@
 // The specification, "Permitted headers and body lengths".
 ghost use Rattle.std.specs.Prelude.{◌≡◌, ◌≤◌, cond};
 ghost use Rattle.iscc.specs.Permitted.{is_wide, row, permits, body_bytes};
-ghost use Rattle.iscc.specs.declared.main_type.MainType.TheVariants.{Iscc};
+ghost use Rattle.iscc.specs.declared.main_type.Name.TheVariants.{Iscc};
 
-use iscc::main_type::MainType;
+use iscc::main_type::{MainType, Name};
 
 // A wide composite's header: subtype 7 with length 0.
 #[tactic(auto, unfolding(iscc::specs::Permitted::is_wide))]
@@ -30,14 +30,14 @@ fn composite_row(subtype: u32, length_number: u32) -> bool
 fn in_row(main_type: MainType, subtype: u32, length_number: u32) -> bool
     ensures { result ≡ row main_type subtype length_number }
 {
-    match main_type {
-        MainType::Meta => subtype == 0 && length_number <= 7,
-        MainType::Semantic => subtype <= 4 && length_number <= 7,
-        MainType::Content => subtype <= 4 && length_number <= 7,
-        MainType::Data => subtype == 0 && length_number <= 7,
-        MainType::Instance => subtype == 0 && length_number <= 7,
-        MainType::Iscc => composite_row(subtype, length_number),
-        MainType::Id => subtype <= 5 && length_number <= 4,
+    match main_type.name() {
+        Name::Meta => subtype == 0 && length_number <= 7,
+        Name::Semantic => subtype <= 4 && length_number <= 7,
+        Name::Content => subtype <= 4 && length_number <= 7,
+        Name::Data => subtype == 0 && length_number <= 7,
+        Name::Instance => subtype == 0 && length_number <= 7,
+        Name::Iscc => composite_row(subtype, length_number),
+        Name::Id => subtype <= 5 && length_number <= 4,
     }
 }
 
@@ -74,13 +74,13 @@ pub(crate) fn body_bytes(main_type: MainType, subtype: u32, length_number: u32) 
     ensures { (result ≡ body_bytes main_type subtype length_number) × (result ≤ 40) }
 {
     let n = length_number as usize;
-    match main_type {
-        MainType::Meta => (n + 1) * 4,
-        MainType::Semantic => (n + 1) * 4,
-        MainType::Content => (n + 1) * 4,
-        MainType::Data => (n + 1) * 4,
-        MainType::Instance => (n + 1) * 4,
-        MainType::Iscc => composite_bytes(subtype, length_number),
-        MainType::Id => 8 + n,
+    match main_type.name() {
+        Name::Meta => (n + 1) * 4,
+        Name::Semantic => (n + 1) * 4,
+        Name::Content => (n + 1) * 4,
+        Name::Data => (n + 1) * 4,
+        Name::Instance => (n + 1) * 4,
+        Name::Iscc => composite_bytes(subtype, length_number),
+        Name::Id => 8 + n,
     }
 }

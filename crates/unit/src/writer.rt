@@ -34,7 +34,7 @@ pub fn write(
     ensures answer { result ≡ written_as (write_unit (header_with main_type subtype version length_number) body.now (lists.length out.old)) }
     ensures area { out.new ≡ area_after (write_unit (header_with main_type subtype version length_number) body.now (lists.length out.old)) out.old }
 {
-    if main_type == MainType::Iscc {
+    if main_type == MainType::ISCC {
         return Err(Refusal::NotPermitted);
     }
     if !permitted::permits(main_type, subtype, version, length_number) {

@@ -11,7 +11,7 @@ use lib.Seq.{get_or-set_same, get_or-set_other}
 use borrow.Author.Tests.{eqb-true, eqb-false}
 use Rattle.std.specs.Prelude.{Option, Some, None, is_some}
 use Rattle.iscc.specs.Permitted.{MainType, number}
-use Rattle.iscc.specs.declared.main_type.MainType.TheVariants.{Meta, Semantic, Content, Data, Instance, Iscc, Id}
+use Rattle.iscc.specs.declared.main_type.Name.TheVariants.{Meta, Semantic, Content, Data, Instance, Iscc, Id}
 use Rattle.iscc.specs.Item.{Item}
 use Rattle.iscc.specs.Lists.{every, pairwise, first_not, first_clash}
 use Rattle.iscc.specs.Items.{same_type, joinable, is_64_bits, other_type, shared_subtype, body_in, is_in, has}

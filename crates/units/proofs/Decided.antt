@@ -4,7 +4,7 @@ use mathlib.Core.Path.{◌≡◌, refl}
 use mathlib.Core.Bool.{Bool, true, false}
 use mathlib.Core.Option.{Option, none, some}
 use mathlib.Core.List.{List}
-use Rattle.iscc.specs.declared.main_type.MainType.TheVariants.{Data, Instance}
+use Rattle.iscc.specs.declared.main_type.Name.TheVariants.{Data, Instance}
 use Rattle.iscc.specs.Item.{Item}
 use Rattle.iscc.specs.Lists.{every, pairwise}
 use Rattle.iscc.specs.Items.{joinable, is_64_bits, other_type, shared_subtype, body_in, composite_from}

@@ -3,7 +3,7 @@ use Rattle.std.specs.Prelude.{ℕ, ◌+◌, ◌≤◌, ◌<◌, ◌≡◌, Bool,
 use Rattle.std.proofs.Math.Option as parts
 use Rattle.std.proofs.Math.Option.{none, some}
 use Rattle.iscc.specs.Permitted.{MainType, number}
-use Rattle.iscc.specs.declared.main_type.MainType.TheVariants.{Iscc, Id}
+use Rattle.iscc.specs.declared.main_type.Name.TheVariants.{Iscc, Id}
 use Rattle.iscc.specs.Item.{Item}
 use Rattle.iscc.specs.Lists.{every, pairwise, first_not, first_clash}
 use Rattle.iscc.specs.Items.{same_type, takes_subtype, joinable, is_64_bits, other_type, has_subtype, shared_subtype, body_in}

@@ -5,7 +5,7 @@ use Rattle.std.specs.Prelude.{ℕ, cond, List, [], Option, Some, None}
 use Rattle.iscc.specs.Refusals.{Refusal, not_joinable, not_64_bits, main_type_twice, lacks_data_or_instance, subtypes_differ}
 use Rattle.iscc.specs.Answer.{Answer, accept, refuse}
 use Rattle.iscc.specs.Permitted.{MainType, number}
-use Rattle.iscc.specs.declared.main_type.MainType.TheVariants.{Data, Instance}
+use Rattle.iscc.specs.declared.main_type.Name.TheVariants.{Data, Instance}
 use Rattle.iscc.specs.Meaning.{Meaning}
 use Rattle.iscc.specs.Item.{Item}
 use Rattle.iscc.specs.Lists.{every, pairwise, first_not, first_clash}

@@ -2,7 +2,7 @@
 ghost use Rattle.std.specs.Prelude.{◌≡◌, ◌<◌};
 ghost use Rattle.units.specs.Summary.{empty_summary, advanced, is_joinable, offset_in, shares, subtype_after, added};
 
-use iscc::main_type::MainType;
+use iscc::main_type::{MainType, Name};
 
 #[derive(Clone, Copy)]
 pub struct Summary {
@@ -24,9 +24,9 @@ pub struct Summary {
 fn is_joinable(main_type: MainType) -> bool
     ensures { result ≡ is_joinable main_type }
 {
-    match main_type {
-        MainType::Iscc => false,
-        MainType::Id => false,
+    match main_type.name() {
+        Name::Iscc => false,
+        Name::Id => false,
         _ => true,
     }
 }
@@ -67,7 +67,7 @@ impl Summary {
     pub fn offset_of(&self, main_type: MainType) -> Option<usize>
         ensures { result ≡ offset_in self.now.offsets main_type }
     {
-        self.offsets[main_type as usize]
+        self.offsets[main_type.number() as usize]
     }
 
     // Whether a unit has the subtype of the SEMANTIC and CONTENT units so far, if it is one.
@@ -103,7 +103,7 @@ impl Summary {
         requires { self.old.count < 18446744073709551615 }
         ensures { self.new ≡ added self.old main_type subtype size offset }
     {
-        let number = main_type as usize;
+        let number = main_type.number() as usize;
         let is_first = self.offset_of(main_type).is_none();
         self.not_joinable = advance(self.not_joinable, self.count, is_joinable(main_type));
         self.not_64_bits = advance(self.not_64_bits, self.count, size == 8);

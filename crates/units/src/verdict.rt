@@ -9,7 +9,7 @@ use iscc::refusal::{DetailedRefusal, Refusal};
 fn missing(main_type: MainType) -> Result<(), DetailedRefusal>
     ensures { result ≡ lacks main_type }
 {
-    Err(Refusal::LacksDataOrInstance.with_detail(main_type as usize))
+    Err(Refusal::LacksDataOrInstance.with_detail(main_type.number() as usize))
 }
 
 // The list makes a composite; or why not, and where: an item's index, or for 13 the number of the main type that is missing.
@@ -26,11 +26,11 @@ pub fn decide(list: &Summary) -> Result<(), DetailedRefusal>
     if let Some(k) = list.repeated {
         return Err(Refusal::MainTypeTwice.with_detail(k));
     }
-    if list.offset_of(MainType::Data).is_none() {
-        return missing(MainType::Data);
+    if list.offset_of(MainType::DATA).is_none() {
+        return missing(MainType::DATA);
     }
-    if list.offset_of(MainType::Instance).is_none() {
-        return missing(MainType::Instance);
+    if list.offset_of(MainType::INSTANCE).is_none() {
+        return missing(MainType::INSTANCE);
     }
     if let Some(k) = list.clash {
         return Err(Refusal::SubtypesDiffer.with_detail(k));

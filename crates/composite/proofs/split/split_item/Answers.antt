@@ -1,7 +1,7 @@
 -- `split_item` meets its contract.
 use Rattle.std.proofs.Common.{refl, sym, rules}
 use denote.Enum.Bare.{differs_true, differs_false}
-use Rattle.iscc.specs.contracts.main_type.MainType.{the_type}
+use Rattle.iscc.specs.contracts.main_type.Name.{the_type}
 use Rattle.iscc.proofs.Digits.{below_all}
 use Rattle.iscc.proofs.Filling.{refused, answers-same}
 use Rattle.unit.proofs.ExactlyOne.{one-is}

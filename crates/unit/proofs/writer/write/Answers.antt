@@ -1,6 +1,6 @@
 -- `write` meets its contract: a law of `write_unit` for each return.
 use Rattle.std.proofs.Common.{sym, arith, rules, []}
-use Rattle.iscc.specs.contracts.main_type.MainType.{the_type}
+use Rattle.iscc.specs.contracts.main_type.Name.{the_type}
 use denote.Enum.Bare.{same_true, same_false}
 use Rattle.iscc.proofs.Permitted.{number_small}
 use Rattle.unit.proofs.Write.{numbers-small, write-composite, write-8, write-9, write-15, write-ok}

@@ -1,5 +1,7 @@
 -- `Composite::put_units` meets its contract: one unit more is laid.
 use Rattle.std.proofs.Common.{◌≡◌, ◌<◌, arith, rules, length}
+use Rattle.std.proofs.lemmas.List.{get_or_default}
+use Rattle.iscc.specs.declared.main_type.Name.TheVariants.{Meta}
 use Rattle.composite.proofs.Parts.{none-laid, more-laid, all_laid}
 use Rattle.composite.proofs.Units.{put_ok, put-long, put-units}
 use Rattle.composite.proofs.bodies.Composite.put_units.Goals as goal
@@ -11,13 +13,15 @@ pub put_unit-requires : goal.put_unit-requires
 put_unit-requires c =
     let h : c.loop-i.i < c.args.set.count = omega (arith, c.from-i-end.ensures) in
     let k = put_ok _ _ c.self.view_is c.self.invariant _ c.requires.0 c.loop-i.i h in
+    rw (get_or_default c.args.set.units c.loop-i.i c.index-set-i.result Meta (search rules))
     (k.0, k.1, omega (arith, h, c.loop-i.invariant.same, c.requires.2))
 
 pub loop-i-preserved : goal.loop-i-preserved
 loop-i-preserved c =
     let e : length c.put_unit.new.out ≡ length c.loop-i.out = search rules in
     more-laid _ 10 _ _ _ c.loop-i.invariant c.put_unit.new.out
-    (put-long _ _ c.self.view_is c.self.invariant _ c.requires.0 c.loop-i.i (omega (arith, c.from-i-end.ensures))) e c.put_unit.ensures
+    (put-long _ _ c.self.view_is c.self.invariant _ c.requires.0 c.loop-i.i (omega (arith, c.from-i-end.ensures))) e
+    (rw (get_or_default c.args.set.units c.loop-i.i c.index-set-i.result Meta (search rules)) at c.put_unit.ensures)
 
 pub returns : goal.returns
 returns c =
