@@ -3,4 +3,5 @@ pub mod Same
 pub mod Total
 pub mod Order
 pub mod Answers
+pub mod Words
 pub mod Numbers

@@ -36,13 +36,13 @@ is-behind a b e = go (same_bytes a b) refl
 
 -- ---- by std's order
 
-first-decides : (x y : ℕ) (xs ys : List ℕ) → x < y → Less ≡ order_as (x ∷ xs) (y ∷ ys)
+pub first-decides : (x y : ℕ) (xs ys : List ℕ) → x < y → Less ≡ order_as (x ∷ xs) (y ∷ ys)
 first-decides x y xs ys h = sym (is-before (x ∷ xs) (y ∷ ys) (before-less x y xs ys h))
 
-second-decides : (x y : ℕ) (xs ys : List ℕ) → y < x → Greater ≡ order_as (x ∷ xs) (y ∷ ys)
+pub second-decides : (x y : ℕ) (xs ys : List ℕ) → y < x → Greater ≡ order_as (x ∷ xs) (y ∷ ys)
 second-decides x y xs ys h = sym (is-behind (x ∷ xs) (y ∷ ys) (before-less y x ys xs h))
 
-same-next : (x y : ℕ) (xs ys : List ℕ) → x ≡ y → order_as (x ∷ xs) (y ∷ ys) ≡ order_as xs ys
+pub same-next : (x y : ℕ) (xs ys : List ℕ) → x ≡ y → order_as (x ∷ xs) (y ∷ ys) ≡ order_as xs ys
 unfolding order_as same_bytes before
 same-next x y xs ys e = rw (eq-eqb x y e)
 

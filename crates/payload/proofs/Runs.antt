@@ -6,8 +6,10 @@ use mathlib.Core.List.{List, [], ◌∷◌, ◌++◌, append-nil}
 use native.Mathlib.Omega.{arith}
 use native.Mathlib.Numerals.{add-one}
 use lib.ListN.{length, get_or, take, set, length-append, length-set, length-drop, drop, take-append-drop, drop_of_length-le}
-use lib.Seq.{drop-drop, take_all, take-length, take-add, take_at, drop_at, take-suc, take-suc-set, length-take-le}
+use lib.Seq.{drop-drop, take_all, take-length, take-add, take_at, drop_at, take-set-le, take-suc, take-suc-set, length-take-le}
+use Rattle.std.specs.Int.{from_bool}
 use lib.Dec.{eqb}
+use borrow.Author.Tests.{eqb-true, eqb-false}
 use Rattle.iscc.specs.Doors.{drop_hyphens}
 use Rattle.iscc.proofs.Text.{drop_hyphens-skip, drop_hyphens-keep}
 use Rattle.iscc.proofs.Parts.{rest-is}
@@ -64,6 +66,24 @@ module _ (t d area area' : List ℕ) (c count count' i : ℕ) (l : i < length t)
     pub dropped-over : length area ≤ count → area' ≡ area → DroppedUpTo t d area' count' (i + 1)
     dropped-over h w =
         record { within = omega arith; fewer = omega (arith, k.fewer); counted = one-counted; stored = λ r. absurd (omega (arith, ap length w)); same = ap length w ∙ k.same }
+
+-- a flag as a number
+pub by-flag : (b : Bool) → from_bool (not b) ≡ cond b 0 1
+by-flag true = refl
+by-flag false = refl
+
+-- stored, and counted by such a number
+pub dropped-next : (t d area : List ℕ) (c m count i : ℕ) → i < length t → c ≡ get_or t i 0 → DroppedUpTo t d area count i → m ≡ cond (eqb c 45) 0 1 → count < length area
+    → DroppedUpTo t d (set area count c) (count + m) (i + 1)
+dropped-next t d area c m count i l e k f h = go (eqb c 45) refl
+  where
+    go : (b : Bool) → eqb c 45 ≡ b → DroppedUpTo t d (set area count c) (count + m) (i + 1)
+    go true q =
+        let z : m ≡ 0 = f ∙ ap (λ (b : Bool). cond b 0 1) q in
+        dropped-hyphen t d area (set area count c) c count (count + m) i l e k (eqb-true c 45 q) (omega arith) (length-set area count c) (take-set-le count area count c (omega arith))
+    go false q =
+        let z : m ≡ 1 = f ∙ ap (λ (b : Bool). cond b 0 1) q in
+        dropped-stored t d area (set area count c) c count (count + m) i l e k (eqb-false c 45 q) (omega arith) h refl
 
 pub dropped-all : {t d area : List ℕ} {count i : ℕ} → DroppedUpTo t d area count i → length t ≤ i → Dropped t area count
 dropped-all {t} {d} {area} {count} {i} k l =

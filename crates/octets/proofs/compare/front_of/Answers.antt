@@ -3,8 +3,10 @@ use Rattle.std.proofs.Common.{rules, ◌≡◌, ◌<◌, ◌≤◌, length, take
 use mathlib.Core.Path.{◌∙◌, ap₂}
 use borrow.Author.Tests.{le-leb, lt-leb}
 use Rattle.octets.specs.Representation.{order_as, front_as}
-use Rattle.std.specs.declared.cmp.Ordering.TheVariants.{Less, Equal, Greater}
-use Rattle.octets.proofs.Order.{by_cmp}
+use Rattle.std.specs.declared.cmp.Ordering.TheVariants.{Equal}
+use Rattle.std.specs.Ordering.{nat_cmp}
+use Rattle.iscc.proofs.Digits.{below_all}
+use Rattle.octets.proofs.Words.{by_front}
 use Rattle.octets.proofs.compare.front_of.Goals as goal
 
 first-short : (a b : List ℕ) → length a < 4 → Equal ≡ front_as a b
@@ -23,7 +25,9 @@ pub returns-in-Some-Some : goal.returns-in-Some-Some
 returns-in-Some-Some c =
     let h = c.in-Some-Some.ensures.cases in
     let g = c.in-Some-Some.ensures'.cases in
-    c.cmp.ensures ∙ by_cmp c.in-Some-Some.x.now c.in-Some-Some.y.now ∙ ap₂ order_as h.same g.same
+    c.cmp.ensures ∙ ap₂ nat_cmp c.from_be_bytes.ensures c.from_be_bytes-in-Some-Some.ensures
+    ∙ by_front c.args.a.now c.args.b.now c.in-Some-Some.x.now c.in-Some-Some.y.now h.same g.same h.enough g.enough
+    (below_all 256 c.args.a.now (λ k _. (c.type_inv.a k).fits)) (below_all 256 c.args.b.now (λ k _. (c.type_inv.b k).fits))
     ∙ both c.args.a.now c.args.b.now h.enough g.enough
 
 pub returns-in_default : goal.returns-in_default

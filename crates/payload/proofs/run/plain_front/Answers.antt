@@ -1,5 +1,7 @@
 -- A part more.
 use Rattle.std.proofs.Common.{◌≡◌, ◌≤◌, ◌-◌, length, refl, arith}
+use mathlib.Core.Path.{sym}
+use lib.Seq.{take-length}
 use Rattle.payload.proofs.Runs.{clear_none, clear_more, left-more}
 use Rattle.payload.proofs.run.plain_front.Goals as goal
 
@@ -11,10 +13,18 @@ loop-part-init c =
 pub loop-part-preserved : goal.loop-part-preserved
 loop-part-preserved c =
     let l = c.loop-part.invariant in
-    let s = c.split_at.ensures in
-    let k : c.min.result ≤ length c.loop-part.rest.now = omega arith in
+    let s = c.in-Some.ensures.cases in
+    let k : 16 ≤ length c.loop-part.rest.now = omega (arith, s.2) in
     record {
-      fewer = omega arith;
-      left = left-more _ _ _ _ l.fewer l.left k s.back s.back_len;
-      clear = clear_more _ _ _ _ _ _ l.fewer l.left l.clear k s.front c.none_in.ensures c.if-not-none_in.false s.back_len;
+      fewer = omega (arith, l.fewer, s.2);
+      left = left-more _ _ _ _ l.fewer l.left k s.1 s.2;
+      clear = clear_more _ _ _ _ _ _ l.fewer l.left l.clear k s.0 c.none_in.ensures c.if-not-none_in.false s.2;
     }
+
+pub returns-then-none_in-clause-plain : goal.returns-then-none_in-clause-plain
+returns-then-none_in-clause-plain c =
+    let l = c.loop-part.invariant in
+    let t = c.args.typed.now in
+    let r = c.loop-part.rest.now in
+    let z : length t - 0 ≡ length t = omega arith in
+    rw z at (clear_more t r r (length r) 0 _ l.fewer l.left l.clear (omega arith) (sym (take-length r)) c.none_in-2.ensures c.if-none_in.true (omega arith)).none

@@ -1,8 +1,8 @@
 -- One character more, stored where it is no hyphen and there is room.
 use Rattle.std.proofs.Common.{refl, ◌∙◌}
 use Rattle.payload.proofs.Runs.{dropped-none, dropped-hyphen, dropped-stored, dropped-over}
-use Rattle.payload.proofs.run.drop_hyphens.Goals.{then-c-ne45, then-count-out, else-count-out, else-c-ne45}
-use Rattle.payload.proofs.run.drop_hyphens.Goals as goal
+use Rattle.payload.proofs.run.drop_many.Goals.{then-c-ne45, then-count-out, else-count-out, else-c-ne45}
+use Rattle.payload.proofs.run.drop_many.Goals as goal
 
 pub loop-c-init : goal.loop-c-init
 loop-c-init c = dropped-none _ _
