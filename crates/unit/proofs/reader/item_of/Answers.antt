@@ -1,4 +1,5 @@
--- `item_of` meets its contract: a law of `read_item` for each return.
+-- `item_of` meets its contract: a law of `read_item` for each return. The body's length goes by arithmetic, so that it stands whatever is
+-- compared.
 use Rattle.header.proofs.Bounds.{raw-bounds}
 use Rattle.std.proofs.Common.{◌∙◌, arith}
 use Rattle.iscc.proofs.Answer.{exit-same}
@@ -21,8 +22,8 @@ overflow_add-used c = omega (arith, (raw-bounds _ _ c.requires).most)
 
 pub returns-then-bytes-used : goal.returns-then-bytes-used
 returns-then-bytes-used c =
-    item-short _ _ c.requires c.try_from.ensures _ c.in_ok-main_type.was c.permits.ensures c.if-not-permits.false c.body_bytes.ensures.0 c.if-bytes-used.true
+    item-short _ _ c.requires c.try_from.ensures _ c.in_ok-main_type.was c.permits.ensures c.if-not-permits.false c.body_bytes.ensures.0 (omega arith)
 
 pub returns : goal.returns
 returns c =
-    item-good _ _ c.requires c.try_from.ensures _ c.in_ok-main_type.was c.permits.ensures c.if-not-permits.false c.body_bytes.ensures.0 c.if-bytes-used.false
+    item-good _ _ c.requires c.try_from.ensures _ c.in_ok-main_type.was c.permits.ensures c.if-not-permits.false c.body_bytes.ensures.0 (omega arith)
