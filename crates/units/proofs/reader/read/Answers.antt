@@ -1,4 +1,5 @@
--- `read` meets its contract: the items so far, and what the rest adds to them.
+-- `read` meets its contract: the items so far, and what the rest adds to them. The test for the end goes by arithmetic, so that it stands
+-- whatever it compares.
 use Rattle.std.proofs.Common.{arith}
 use Rattle.units.proofs.Reached.{starts, refuses, turn}
 use Rattle.units.proofs.reader.read.Goals as goal
@@ -25,12 +26,12 @@ overflow_add-at-in-loop-u c =
 pub returns-then-bytes-at-clause-answer : goal.returns-then-bytes-at-clause-answer
 returns-then-bytes-at-clause-answer c =
     let t = turn _ _ _ c.loop-u.invariant c.read.ensures.answer _ c.in-Ok.is in
-    (t.ends _ c.add.ensures c.if-bytes-at.true).0
+    (t.ends _ c.add.ensures (omega arith)).0
 
 pub returns-then-bytes-at-clause-list : goal.returns-then-bytes-at-clause-list
 returns-then-bytes-at-clause-list c =
     let t = turn _ _ _ c.loop-u.invariant c.read.ensures.answer _ c.in-Ok.is in
-    (t.ends _ c.add.ensures c.if-bytes-at.true).1
+    (t.ends _ c.add.ensures (omega arith)).1
 
 pub loop-u-smaller : goal.loop-u-smaller
 loop-u-smaller c =
@@ -40,4 +41,4 @@ loop-u-smaller c =
 pub loop-u-preserved : goal.loop-u-preserved
 loop-u-preserved c =
     let t = turn _ _ _ c.loop-u.invariant c.read.ensures.answer _ c.in-Ok.is in
-    t.more _ c.add.ensures c.if-bytes-at.false
+    t.more _ c.add.ensures (omega arith)
