@@ -3,10 +3,12 @@ use Prim.Native.Nat.{ℕ, zero, suc, ◌+◌, ◌-◌, ◌≤◌, min}
 use mathlib.Core.Path.{◌≡◌, refl, sym, ◌∙◌, ap, subst}
 use mathlib.Core.List.{List, [], ◌∷◌, ◌++◌, append_assoc}
 use native.Mathlib.Omega.{arith}
-use lib.ListN.{length, take, drop, length-append, take-append-drop}
-use lib.Seq.{length-take-le, take_all, take_at}
+use lib.ListN.{length, take, drop, replicate, length-take, length-drop, length-append, take-append-drop}
+use lib.Seq.{take-append_seam, length-take-le, take_all, take_at, drop_at}
 use Rattle.std.proofs.Common.{inl, inr}
 use Rattle.std.proofs.lemmas.Bool.{cases_lt}
+use Rattle.std.proofs.lemmas.List.{drop-replicate}
+use Rattle.answers.specs.LineArea.{IsLine}
 
 -- ---- a part behind the first n bytes of b, as far as there is room
 
@@ -37,6 +39,26 @@ module _ (b part x : List ℕ) (n count : ℕ) (size : length b ≡ 200) (room :
         | inl h ↦ all-put (omega arith)
         | inr h ↦ cut-put h
       ]
+
+  -- the zeros behind it are those that stood there
+  pub line-put : IsLine b n → (k : ℕ) → k ≡ count → IsLine (take n b ++ (x ++ drop k (drop n b))) (n + count)
+  line-put v k e =
+      record {
+        within = omega (arith, c);
+        size =
+            ap length (sym (append_assoc (take n b) x (drop k (drop n b)))) ∙ length-append (take n b ++ x) (drop k (drop n b))
+            ∙ simp length-drop (omega (arith, c, e, size, length-put));
+        zeros =
+            ap (drop (n + count)) (sym (append_assoc (take n b) x (drop k (drop n b))))
+            ∙ drop_at (take n b ++ x) (drop k (drop n b)) (n + count) length-put ∙ ap (drop k) v.zeros ∙ drop-replicate k (200 - n) 0
+            ∙ ap (λ (m : ℕ). replicate m 0) (omega (arith, e));
+      }
+
+-- a length over that of the area stands for all bytes
+pub cut-same : (b : List ℕ) (size n m : ℕ) → length b ≡ size → n ≡ min m size → take n b ≡ take m b
+cut-same b size n m l h =
+    let k : n ≡ length (take m b) = simp length-take (omega arith) in
+    rw k (ap (take (length (take m b))) (sym (take-append-drop m b)) ∙ take-append_seam (take m b) (drop m b))
 
 -- ---- parts in a row: cut at each, or once
 

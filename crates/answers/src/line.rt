@@ -1,7 +1,6 @@
 // A line to be written, made part by part.
-ghost use Rattle.std.specs.Prelude.{◌≡◌, ℕ, List, [], ◌++◌, ◌≤◌, length, take};
+ghost use Rattle.std.specs.Prelude.{◌≡◌, [], ◌++◌, ◌≤◌, length, take};
 ghost use Rattle.answers.specs.Answers.{in_decimal};
-ghost use Rattle.answers.specs.declared.line.TheConstants.{LONGEST_LINE};
 
 use itoa::Buffer;
 use std::marker::Model;
@@ -10,19 +9,26 @@ use std::marker::Model;
 pub const LONGEST_LINE: usize = 200;
 
 // A part that has no room behind the others is cut.
-#[derive(Drop)]
+#[derive(Clone, Copy)]
 pub struct Line {
     bytes: [u8; LONGEST_LINE],
     length: usize,
 }
 
-// Clauses see the line's bytes.
+// Clauses see the line's bytes. Behind them are zeros, so that they tell the fields, which a copy needs.
 impl Model for Line {
+    ghost use Rattle.std.specs.Prelude.{ℕ, List, take};
+    ghost use Rattle.answers.specs.LineArea.{area_of, length_of, IsLine, area_back, length-back};
+
     ghost Value = { List ℕ };
 
     ghost view = { λ l. take l.length l.bytes };
 
-    ghost invariant = { λ l. l.length ≤ LONGEST_LINE };
+    ghost invariant = { λ l. IsLine l.bytes l.length };
+
+    ghost inverse = { λ v. record { bytes = area_of v; length = length_of v } };
+
+    ghost inverse_ok = { λ l h i. record { bytes = area_back l.bytes l.length h i; length = length-back l.bytes l.length h i } };
 }
 
 impl Line {
@@ -33,6 +39,16 @@ impl Line {
             bytes: [0; LONGEST_LINE],
             length: 0,
         }
+    }
+
+    // The first bytes of an area, and all of them where the length is above that of a line.
+    pub fn from_parts(bytes: [u8; LONGEST_LINE], length: usize) -> Self
+        ensures { result ≡ take length bytes }
+    {
+        let count = length.min(LONGEST_LINE);
+        let mut line = Line::new();
+        line.push(&bytes[..count]);
+        line
     }
 
     pub fn as_bytes(&self) -> &[u8]
