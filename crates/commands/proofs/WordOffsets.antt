@@ -4,7 +4,7 @@ use mathlib.Core.Path.{◌≡◌, refl, sym, ◌∙◌, ap}
 use mathlib.Core.Bool.{Bool, true, false, cond, not}
 use mathlib.Core.List.{List, [], ◌∷◌}
 use native.Mathlib.Omega.{arith}
-use lib.ListN.{length, take, drop}
+use lib.ListN.{length, take, drop, length-drop}
 use Rattle.std.proofs.lemmas.List.{drop-drop}
 use lib.Dec.{eqb, ltb}
 use borrow.Author.Tests.{ltb-false, ne_eqb}
@@ -50,6 +50,20 @@ first-failing p q e xs r f = rw (f, first_not-is p q e xs) (go (ltb (position_or
         → unwrap_or (cond b (Some (position_or_len q xs)) None) (length xs) ≡ position_or_len q xs
     go true k = refl
     go false k = omega (arith, ltb-false (position_or_len q xs) (length xs) k, first-within p xs, first_not-is p q e xs)
+
+-- ---- where a word of a line stands
+
+module _ (line : List ℕ) (offset : ℕ) (h : offset ≤ length line) where
+  pub word-ordered : word_start line offset ≤ word_end line offset
+  unfolding word_end
+  word-ordered = omega arith
+
+  pub word-within : word_end line offset ≤ length line
+  unfolding word_start word_end
+  word-within =
+      let a = first-within is_blank (drop offset line) in
+      let b = first-within not_blank (drop (offset + first_not is_blank (drop offset line)) line) in
+      omega (arith, a, b, length-drop offset line, length-drop (offset + first_not is_blank (drop offset line)) line)
 
 -- ---- a word of a line, by what is left of the line
 

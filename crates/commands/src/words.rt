@@ -1,6 +1,6 @@
 // The words of a line, and a borrower's number.
 ghost use Rattle.std.specs.Prelude.{◌≡◌};
-ghost use Rattle.commands.specs.Commands.{borrower_of};
+ghost use Rattle.commands.specs.Commands.{is_digit, borrower_of};
 ghost use Rattle.commands.specs.Reading.{next_word, behind_word};
 
 use octets::blank::is_blank;
@@ -22,7 +22,16 @@ pub(crate) fn next(text: &[u8]) -> (&[u8], &[u8])
     rest.split_at(end)
 }
 
+// A digit from 0 to 9.
+#[tactic(auto, unfolding(crate::specs::Commands::is_digit))]
+fn is_digit(byte: u8) -> bool
+    ensures { result ≡ is_digit byte }
+{
+    byte.is_ascii_digit()
+}
+
 // The number that a word of one to ten digits stands for. std's parse takes a sign and any number of zeros, and a borrower has neither.
+#[tactic(auto, unfolding(crate::specs::Commands::is_digit))]
 pub(crate) fn read_borrower(word: &[u8]) -> Option<u32>
     ensures { result ≡ borrower_of word.now }
 {
@@ -31,7 +40,7 @@ pub(crate) fn read_borrower(word: &[u8]) -> Option<u32>
     }
     let mut number: u64 = 0;
     for &digit in word {
-        if !digit.is_ascii_digit() {
+        if !is_digit(digit) {
             return None;
         }
         number = number * 10 + u64::from(digit - b'0');
