@@ -14,6 +14,7 @@ use Rattle.iscc.proofs.Answer.{answered, passed, accept-inj}
 use Rattle.loans.specs.Map.{Change, issue_code, return_code}
 use Rattle.loans.specs.Calls.{issue, take_back, ask, afterwards, issued, returned}
 use Rattle.loans.specs.Register.{changed_area}
+use Rattle.loans.specs.Fields.{field_bytes}
 use Rattle.loans.specs.Numbered.{Contents}
 use Rattle.loans.specs.Contents.{is_register, contents_of, bytes_of, applied, changed_loans, register, issue_text, return_text, ask_text}
 use Rattle.loans.specs.Good.{IsCode, GoodChange, GoodContents}
@@ -26,7 +27,7 @@ use Rattle.register.specs.Representation.{Holder}
 use Rattle.answers.specs.Answers.{refused_line}
 use Rattle.hall.specs.Serving as serving
 use Rattle.hall.specs.Serving.{text_of_typed, not_served, issue_served, return_served, ask_served, sheet_served, call_served}
-use Rattle.hall.specs.Said.{Said, Tells, Recordable, entry_size, issued_as, returned_as}
+use Rattle.hall.specs.Said.{Said, Tells, Recordable, entry_size, outcome_by, record_bytes, made_as, issued_as, returned_as}
 use Rattle.hall.specs.Sheet.{sheet_lines}
 use Rattle.hall.specs.declared.serving.Outcome.TheVariants as outcomes
 use Rattle.hall.specs.declared.serving.Served.{Served}
@@ -37,7 +38,7 @@ abbrev pub at : List ℕ → serving.Served → serving.Served
 at area s = record { answer = s.answer; entry = s.entry; area = area; refused = s.refused; sheet = s.sheet }
 
 pub said_at : {s : serving.Served} {r : Served} (area : List ℕ) → Said s r → Said (at area s) r
-said_at area x = record { answer = x.answer; refused = x.refused; sheet = x.sheet; size = x.size }
+said_at area x = record { answer = x.answer; outcome = x.outcome; refused = x.refused; sheet = x.sheet; size = x.size }
 
 pub tells_at : {s : serving.Served} {r : Served} {entry entry' : List ℕ} (area : List ℕ) → Tells s r entry entry'
     → Tells (at area s) r entry entry'
@@ -48,6 +49,21 @@ pub none-put : {s : serving.Served} {r : Served} (entry : List ℕ) → s.entry 
 none-put {s} {r} entry e x =
     let z : entry_size r.outcome ≡ 0 = x.size ∙ ap length e in
     record { said = x; bytes = sym (ap (λ (bs : List ℕ). bs ++ drop (entry_size r.outcome) entry) e ∙ ap (λ (k : ℕ). drop k entry) z) }
+
+-- ---- a change that was made: its record has bytes
+
+pub recorded-is : (ch : Change) (number : ℕ) → outcome_by (record_bytes ch number) ≡ outcomes.Recorded (length (record_bytes ch number))
+unfolding field_bytes
+recorded-is ch number = refl
+
+pub made_told : (ch : Change) (number n : ℕ) (answer line entry entry' : List ℕ) → line ≡ answer
+    → (n ≡ length (record_bytes ch number)) × (entry' ≡ record_bytes ch number ++ drop n entry)
+    → Tells (made_as answer (record_bytes ch number)) (record { line = line; outcome = outcomes.Recorded n }) entry entry'
+made_told ch number n answer line entry entry' a b =
+    record {
+      said = record { answer = a; outcome = ap outcomes.Recorded b.0 ∙ sym (recorded-is ch number); refused = refl; sheet = refl; size = b.0 };
+      bytes = b.1;
+    }
 
 -- ---- the number that a change took
 
@@ -168,7 +184,7 @@ module _ (area : List ℕ) (is : Bool) (e : is ≡ is_register area) where
   unfolding sheet_lines
   sheet-counted l k a =
       let v : is_register area ≡ true = sym e ∙ k in
-      rw v (record { answer = rw v at a; refused = refl; sheet = refl; size = refl })
+      rw v (record { answer = rw v at a; outcome = refl; refused = refl; sheet = refl; size = refl })
 
   pub sheet-refused : (r : Served) → is ≡ false → Said (not_served (refused_line not_register) []) r → Said (sheet_served area) r
   sheet-refused r k x = let v : is_register area ≡ false = sym e ∙ k in rw v (said_at area x)

@@ -1,5 +1,5 @@
 -- What the code tells of a command that was served. The area afterwards is each function's own promise.
-use Rattle.std.specs.Prelude.{ℕ, Bool, ◌<◌, ◌≡◌, true, false, List, [], ◌++◌, length, drop}
+use Rattle.std.specs.Prelude.{ℕ, Bool, ◌<◌, ◌≡◌, true, false, cond, List, [], ◌∷◌, ◌++◌, length, drop}
 use Rattle.iscc.specs.Answer.{is_accepted}
 use Rattle.iscc.specs.Doors.{code_bytes}
 use Rattle.loans.specs.Map.{Change, issue_code, return_code}
@@ -31,8 +31,17 @@ entry_size outcomes.Answered = 0
 entry_size outcomes.Sheet = 0
 entry_size (outcomes.Recorded n) = n
 
+-- the one outcome of what was served: only what has a record is told as one, since a record is appended and synced
+abbrev pub outcome_by : List ℕ → Outcome
+outcome_by [] = outcomes.Answered
+outcome_by (b ∷ bs) = outcomes.Recorded (length (b ∷ bs))
+
+abbrev pub outcome_of : serving.Served → Outcome
+outcome_of s = cond s.refused outcomes.Refused (cond s.sheet outcomes.Sheet (outcome_by s.entry))
+
 pub record Said (s : serving.Served) (r : Served) : Type 0 where
   pub answer : r.line ≡ s.answer
+  pub outcome : r.outcome ≡ outcome_of s
   pub refused : is_refused r.outcome ≡ s.refused
   pub sheet : is_sheet r.outcome ≡ s.sheet
   pub size : entry_size r.outcome ≡ length s.entry

@@ -35,7 +35,7 @@ pub enum Outcome {
     Recorded(usize),
 }
 
-#[derive(Drop)]
+#[derive(Clone, Copy)]
 pub struct Served {
     pub line: Line,
     pub outcome: Outcome,
