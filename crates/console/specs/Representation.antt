@@ -2,8 +2,6 @@
 use Rattle.iscc.specs.Refusals.{refusal_number}
 use Rattle.std.specs.Prelude.{ℕ, ◌-◌, List, length, get_or, Result, Ok, Err}
 use Rattle.iscc.specs.Answer.{Answer, accept, refuse, number_of}
-use Rattle.iscc.specs.Distance.{distance_answer}
-use Rattle.iscc.specs.Distance as definition
 use Rattle.iscc.specs.Lists.{zero_filled}
 use Rattle.iscc.specs.Refusals.{Refusal}
 use Rattle.iscc.specs.declared.outcome.Outcome.{Outcome}
@@ -12,7 +10,7 @@ use Rattle.loans.specs.Writer.{Written}
 use Rattle.loans.specs.Replay.{ended, torn, stopped, End, Replayed}
 use Rattle.loans.specs.Promotion.{Verdict}
 use Rattle.loans.specs.PromotionOrder.{verdict_answer}
-use Rattle.distance.specs.declared.answer.Distance.{Distance}
+use Rattle.distance.specs.declared.answer.Measured.{Measured}
 use Rattle.iscc.specs.declared.code.Code.{Code}
 use Rattle.register.specs.Representation.{Changed}
 use Rattle.register.specs.Representation.{changed_number, changed_record}
@@ -25,12 +23,8 @@ use Rattle.console.specs.declared.promoting.PromotionAnswer.{PromotionAnswer}
 use Rattle.console.specs.declared.distances.DistanceAnswer.{DistanceAnswer}
 
 -- a distance: its number, and the three things, which a refusal has too
-abbrev pub distance_with : ℕ → definition.Distance → DistanceAnswer
-distance_with number r = record { number = number; d = r.d; n = r.n; ratio = r.ratio }
-
-abbrev pub distance_answer_as : Result Distance Refusal → DistanceAnswer
-distance_answer_as (Ok r) = distance_with 0 (record { d = r.d; n = r.n; ratio = r.ratio })
-distance_answer_as (Err q) = distance_with (refusal_number q) (distance_answer (refuse q))
+abbrev pub distance_answer_as : Measured → DistanceAnswer
+distance_answer_as m = record { number = m.number; d = m.distance.d; n = m.distance.n; ratio = m.distance.ratio }
 
 -- an issue or a return: its number, and the record number that it took, "0 with a refusal"
 abbrev pub change_answer_for : Changed → ChangeAnswer

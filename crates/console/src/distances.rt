@@ -18,18 +18,11 @@ pub struct DistanceAnswer {
 pub extern "C" fn iscc_distance(a: &[u8], b: &[u8]) -> DistanceAnswer
     ensures { result ≡ distance_answer_as (measured_as (distance a.now b.now)) }
 {
-    match distance::units::distance(a, b) {
-        Ok(m) => DistanceAnswer {
-            number: 0,
-            d: u32::from(m.d),
-            n: u32::from(m.n),
-            ratio: m.ratio,
-        },
-        Err(q) => DistanceAnswer {
-            number: q.number(),
-            d: 0,
-            n: 0,
-            ratio: 0.0,
-        },
+    let m = distance::units::distance(a, b);
+    DistanceAnswer {
+        number: m.number,
+        d: u32::from(m.distance.d),
+        n: u32::from(m.distance.n),
+        ratio: m.distance.ratio,
     }
 }

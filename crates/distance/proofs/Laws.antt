@@ -1,16 +1,18 @@
 -- The distance by the units that were read.
 use Prim.Native.Nat.{ℕ, ◌-◌, ◌≤◌}
-use mathlib.Core.Path.{◌≡◌, refl, sym, ◌∙◌}
+use mathlib.Core.Path.{◌≡◌, refl, sym, ◌∙◌, ap, subst}
 use mathlib.Core.Bool.{Bool, true, false, not}
+use mathlib.Core.Logic.{inl, inr}
 use mathlib.Core.List.{List}
 use native.Mathlib.Omega.{arith}
+use lib.Dec.{lit≤}
 use lib.ListN.{length, take, drop, length-drop}
 use borrow.Author.Tests.{not-true, not-false}
-use Rattle.std.specs.Prelude.{Result, Ok, Err, IfOk}
+use Rattle.std.specs.Prelude.{Result, Ok, Err}
 use Rattle.iscc.specs.Refusals.{Refusal, no_distance}
 use Rattle.iscc.specs.Answer.{Answer, accept, refuse}
 use Rattle.iscc.specs.Item.{read_one}
-use Rattle.iscc.specs.Distance.{comparable, distance}
+use Rattle.iscc.specs.Distance.{comparable, distance, distance_answer}
 use Rattle.iscc.specs.Distance as definition
 use Rattle.iscc.proofs.Parts.{rest-is}
 use Rattle.iscc.proofs.Distance.{Bounded, bounded}
@@ -20,7 +22,8 @@ use Rattle.unit.specs.declared.reader.Unit.{Unit}
 use Rattle.unit.specs.Representation.{UnitRead}
 use Rattle.unit.proofs.ExactlyOne.{OneIs, one-is, one-not}
 use Rattle.distance.specs.declared.answer.Distance.{Distance}
-use Rattle.distance.specs.Representation.{distance_as, measured_as, body_distance, Holds, comparable_as, Exact}
+use Rattle.distance.specs.declared.answer.Measured.{Measured}
+use Rattle.distance.specs.Representation.{distance_as, measured_as, result_as, measured_from, body_distance, Holds, comparable_as, Exact}
 
 -- ---- two units that were read
 
@@ -32,8 +35,8 @@ module _ (a b : List ℕ) (u v : Unit) (ha : Holds a u) (hb : Holds b v) where
       let y : OneIs b v = one-is b v hb in
       rw (x.main_type, y.main_type, x.subtype, y.subtype)
 
-  pub not-comparable : (r : Bool) → r ≡ comparable_as u v → not r ≡ true → Err no_distance ≡ measured_as (distance a b)
-  unfolding distance measured_as
+  pub not-comparable : (r : Bool) → r ≡ comparable_as u v → not r ≡ true → Err no_distance ≡ result_as (distance a b)
+  unfolding distance result_as
   not-comparable r e n =
       let x : OneIs a u = one-is a u ha in
       let y : OneIs b v = one-is b v hb in
@@ -41,8 +44,8 @@ module _ (a b : List ℕ) (u v : Unit) (ha : Holds a u) (hb : Holds b v) where
       rw (x.is, y.is, k)
 
   pub measured : (r : Bool) (m : Distance) → r ≡ comparable_as u v → not r ≡ false
-      → m ≡ distance_as (body_distance (take (length a - u.start) (drop u.start a)) (take (length b - v.start) (drop v.start b))) → Ok m ≡ measured_as (distance a b)
-  unfolding distance measured_as
+      → m ≡ distance_as (body_distance (take (length a - u.start) (drop u.start a)) (take (length b - v.start) (drop v.start b))) → Ok m ≡ result_as (distance a b)
+  unfolding distance result_as
   measured r m e n f =
       let x : OneIs a u = one-is a u ha in
       let y : OneIs b v = one-is b v hb in
@@ -58,8 +61,8 @@ body-short a u h = let x : OneIs a u = one-is a u h in rw (rest-is a u.start) (s
 -- ---- by the reader's answers
 
 pub second-refused : (a b : List ℕ) (u : Unit) (r : UnitRead) (q : Refusal) → Holds a u → r ≡ one_read_as b (read_one b) → r ≡ Err q
-    → Err q ≡ measured_as (distance a b)
-unfolding distance measured_as
+    → Err q ≡ result_as (distance a b)
+unfolding distance result_as
 second-refused a b u r q h e f =
     let x : OneIs a u = one-is a u h in
     rw (x.is, one-not b q (sym e ∙ f))
@@ -67,24 +70,36 @@ second-refused a b u r q h e f =
 pub second-read : (b : List ℕ) (r : UnitRead) (v : Unit) → r ≡ one_read_as b (read_one b) → r ≡ Ok v → Holds b v
 second-read b r v e f = sym e ∙ f
 
-pub first-refused : (a b : List ℕ) (r : UnitRead) (q : Refusal) → r ≡ one_read_as a (read_one a) → r ≡ Err q → Err q ≡ measured_as (distance a b)
-unfolding distance measured_as
+pub first-refused : (a b : List ℕ) (r : UnitRead) (q : Refusal) → r ≡ one_read_as a (read_one a) → r ≡ Err q → Err q ≡ result_as (distance a b)
+unfolding distance result_as
 first-refused a b r q e f = rw (one-not a q (sym e ∙ f))
 
 -- ---- what holds of every answer
 
-pub bounds : (a b : List ℕ) (m : Result Distance Refusal) → m ≡ measured_as (distance a b) → IfOk m (λ r. (r.d ≤ r.n) × (r.n ≤ 256))
-unfolding measured_as
-bounds a b m e = rw e (go (distance a b) refl)
-  where
-    go : (x : Answer definition.Distance) → distance a b ≡ x → IfOk (measured_as x) (λ r. (r.d ≤ r.n) × (r.n ≤ 256))
-    go (accept r) f = let w : Bounded r = bounded a b r f in (w.apart, w.most)
-    go (refuse q) f = tt
+-- the one struct from what was found inside
+told : (x : Answer definition.Distance) → measured_from (result_as x) ≡ measured_as x
+unfolding result_as measured_as distance_answer
+told (accept r) = refl
+told (refuse q) = refl
 
-pub exact : (a b : List ℕ) (m : Result Distance Refusal) → m ≡ measured_as (distance a b) → IfOk m Exact
-unfolding measured_as
-exact a b m e = rw e (go (distance a b) refl)
+pub answered : (a b : List ℕ) (r : Result Distance Refusal) (m : Measured) → r ≡ result_as (distance a b) → m ≡ measured_from r → m ≡ measured_as (distance a b)
+answered a b r m e f = f ∙ ap measured_from e ∙ told (distance a b)
+
+pub bounds : (a b : List ℕ) (m : Measured) → m ≡ measured_as (distance a b) → (m.distance.d ≤ m.distance.n) × (m.distance.n ≤ 256)
+unfolding measured_as distance_answer
+bounds a b m e = subst (λ (k : Measured). (k.distance.d ≤ k.distance.n) × (k.distance.n ≤ 256)) (sym e) (go (distance a b) refl)
   where
-    go : (x : Answer definition.Distance) → distance a b ≡ x → IfOk (measured_as x) Exact
-    go (accept r) f = λ n. let w : Bounded r = bounded a b r f in rw w.ratio (demand2.distance_exact r.n n r.d w.apart)
-    go (refuse q) f = tt
+    go : (x : Answer definition.Distance) → distance a b ≡ x → ((measured_as x).distance.d ≤ (measured_as x).distance.n) × ((measured_as x).distance.n ≤ 256)
+    go (accept r) f = let w : Bounded r = bounded a b r f in (w.apart, w.most)
+    go (refuse q) f = (lit≤ tt, lit≤ tt)
+
+pub exact : (a b : List ℕ) (m : Measured) → m ≡ measured_as (distance a b) → Exact m.distance
+unfolding measured_as distance_answer
+exact a b m e = subst (λ (k : Measured). Exact k.distance) (sym e) (go (distance a b) refl)
+  where
+    go : (x : Answer definition.Distance) → distance a b ≡ x → Exact (measured_as x).distance
+    go (accept r) f n = let w : Bounded r = bounded a b r f in rw w.ratio (demand2.distance_exact r.n n r.d w.apart)
+    go (refuse q) f (inl n) = absurd (omega (arith, n))
+    go (refuse q) f (inr (inl n)) = absurd (omega (arith, n))
+    go (refuse q) f (inr (inr (inl n))) = absurd (omega (arith, n))
+    go (refuse q) f (inr (inr (inr n))) = absurd (omega (arith, n))

@@ -3,14 +3,15 @@ use Rattle.std.specs.Prelude.{ℕ, ◌≡◌, Bool, true, ◌&&◌, ◌⊎◌, L
 use Rattle.std.specs.Float.{binary32}
 use Rattle.std.specs.Float.Ieee.{of_int, mul, eq}
 use Rattle.iscc.specs.Refusals.{Refusal}
-use Rattle.iscc.specs.Answer.{Answer, accept, refuse}
-use Rattle.iscc.specs.Distance.{ratio_of, differing_bits, compared_bits, has_distance}
+use Rattle.iscc.specs.Answer.{Answer, accept, refuse, number_of}
+use Rattle.iscc.specs.Distance.{ratio_of, differing_bits, compared_bits, has_distance, distance_answer}
 use Rattle.iscc.specs.Distance as definition
 use Rattle.iscc.specs.Permitted.{number}
 use Rattle.iscc.specs.Item.{read_one}
 use Rattle.unit.specs.Representation.{one_read_as}
 use Rattle.unit.specs.declared.reader.Unit.{Unit}
 use Rattle.distance.specs.declared.answer.Distance.{Distance}
+use Rattle.distance.specs.declared.answer.Measured.{Measured}
 
 abbrev pub distance_as : definition.Distance → Distance
 distance_as r = record { d = r.d; n = r.n; ratio = r.ratio }
@@ -23,10 +24,22 @@ measure d n = record { d = d; n = n; ratio = ratio_of d n }
 abbrev pub body_distance : List ℕ → List ℕ → definition.Distance
 body_distance x y = measure (differing_bits x y) (compared_bits x y)
 
--- the answer: the three things, or the refusal
-unfoldable pub measured_as : Answer definition.Distance → Result Distance Refusal
-measured_as (accept r) = Ok (distance_as r)
-measured_as (refuse q) = Err q
+-- the answer: its number, and the three things, which a refusal has too
+unfoldable pub measured_as : Answer definition.Distance → Measured
+measured_as x = record { number = number_of x; distance = distance_as (distance_answer x) }
+
+abbrev pub refused_as : Refusal → Measured
+refused_as q = measured_as (refuse q)
+
+-- inside: the three things, or the refusal
+unfoldable pub result_as : Answer definition.Distance → Result Distance Refusal
+result_as (accept r) = Ok (distance_as r)
+result_as (refuse q) = Err q
+
+-- and the answer from it
+abbrev pub measured_from : Result Distance Refusal → Measured
+measured_from (Ok r) = record { number = 0; distance = r }
+measured_from (Err q) = refused_as q
 
 -- the bytes hold exactly this unit
 abbrev pub Holds : List ℕ → Unit → Type 0

@@ -15,9 +15,11 @@ fn answer(out: &mut Out<'_>, m: Distance) -> fmt::Result {
 
 fn distance(out: &mut Out<'_>, a: &[u8], b: &[u8]) -> fmt::Result {
     write!(out, "distance {} {}: ", Hex(a), Hex(b))?;
-    match distance::units::distance(a, b) {
-        Ok(m) => answer(out, m)?,
-        Err(q) => write!(out, "refused {}", q.number())?,
+    let m = distance::units::distance(a, b);
+    if m.number == 0 {
+        answer(out, m.distance)?;
+    } else {
+        write!(out, "refused {}", m.number)?;
     }
     writeln!(out)
 }
