@@ -3,7 +3,7 @@ use Rattle.std.specs.Prelude.{ℕ, ◌+◌, ◌≤◌, ◌<◌, ◌≡◌, Bool,
 use Rattle.std.proofs.Math.Option as parts
 use Rattle.std.proofs.Math.Option.{none, some}
 use Rattle.iscc.specs.Permitted.{MainType, number}
-use Rattle.iscc.specs.declared.main_type.Name.TheVariants.{Iscc, Id}
+use Rattle.iscc.specs.declared.main_type.Name.TheVariants.{Semantic, Content, Iscc, Id}
 use Rattle.iscc.specs.Item.{Item}
 use Rattle.iscc.specs.Lists.{every, pairwise, first_not, first_clash}
 use Rattle.iscc.specs.Items.{same_type, takes_subtype, joinable, is_64_bits, other_type, has_subtype, shared_subtype, body_in}
@@ -58,6 +58,9 @@ offset_in offsets m = get_or offsets (number m) None
 -- whether there is a body of a main type
 abbrev pub has_offset : List (Option ℕ) → MainType → Bool
 has_offset offsets m = is_some (offset_in offsets m)
+
+abbrev pub any_subtyped : List (Option ℕ) → Bool
+any_subtyped offsets = has_offset offsets Semantic || has_offset offsets Content
 
 -- whether a SEMANTIC or CONTENT unit has the subtype of the first, if there is one before it
 unfoldable pub shares : Option ℕ → MainType → ℕ → Bool

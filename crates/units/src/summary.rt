@@ -1,6 +1,6 @@
 // What one pass over a list keeps of the items read so far. No body is copied.
 ghost use Rattle.std.specs.Prelude.{◌≡◌, ◌<◌};
-ghost use Rattle.units.specs.Summary.{empty_summary, advanced, is_joinable, offset_in, shares, subtype_after, added};
+ghost use Rattle.units.specs.Summary.{empty_summary, advanced, is_joinable, offset_in, any_subtyped, shares, subtype_after, added};
 
 use iscc::main_type::{MainType, Name};
 
@@ -114,5 +114,12 @@ impl Summary {
             self.offsets[number] = Some(offset);
         }
         self.count += 1;
+    }
+
+    // Whether the list has a SEMANTIC or a CONTENT unit.
+    pub fn any_subtyped(&self) -> bool
+        ensures { result ≡ any_subtyped self.now.offsets }
+    {
+        self.offset_of(MainType::SEMANTIC).is_some() || self.offset_of(MainType::CONTENT).is_some()
     }
 }
