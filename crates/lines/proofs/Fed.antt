@@ -240,6 +240,18 @@ sofar-none d piece line held n room e =
 abbrev pub Finished : List ℕ → List ℕ → code.Written → List ℕ → Type 0
 Finished d p w a = (w ≡ written_as (finishing (length d) p)) × (a ≡ area_after (finishing (length d) p) d)
 
+pub finishing_none : (room : ℕ) (p : List ℕ) → held_for p ≡ 0 → finishing room p ≡ accept []
+unfolding finishing held_for
+finishing_none room p z = go p z
+  where
+    some : (b : Bool) (p : List ℕ) → cond b (suc (length p)) 1025 ≡ 0 → ⊥
+    some true p z = omega arith
+    some false p z = omega arith
+
+    go : (p : List ℕ) → held_for p ≡ 0 → finishing room p ≡ accept []
+    go [] z = refl
+    go (c ∷ p) z = absurd (some (leb (suc (length p)) 1024) p z)
+
 module _ (d p : List ℕ) (n : ℕ) (e : n ≡ held_for p) where
   finishing-some : (n ≡ 0 → ⊥) → finishing (length d) p ≡ (leb 74 (length d) otherwise area_too_short >> accept (answer_line p))
   unfolding finishing held_for
@@ -250,16 +262,7 @@ module _ (d p : List ℕ) (n : ℕ) (e : n ≡ held_for p) where
       go (c ∷ p) l = refl
 
   pub finished-none : n ≡ 0 → Finished d p (Ok 0) d
-  unfolding finishing held_for
-  finished-none z = go p (sym e ∙ z)
-    where
-      some : (b : Bool) (p : List ℕ) → cond b (suc (length p)) 1025 ≡ 0 → ⊥
-      some true p z = omega arith
-      some false p z = omega arith
-
-      go : (p : List ℕ) → held_for p ≡ 0 → Finished d p (Ok 0) d
-      go [] z = (refl, refl)
-      go (c ∷ p) z = absurd (some (leb (suc (length p)) 1024) p z)
+  finished-none z = rw (finishing_none (length d) p (sym e ∙ z)) (refl, refl)
 
   pub finished-short : (n ≡ 0 → ⊥) → length d < 74 → Finished d p (Err area_too_short) d
   finished-short l h = rw (finishing-some l, lt-leb 74 (length d) h) (refl, refl)

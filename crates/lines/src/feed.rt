@@ -57,6 +57,7 @@ pub fn feed(line: &mut [u8], held: usize, piece: &[u8], out: &mut [u8]) -> Fed
 }
 
 // Answers the last line, if one was begun. Gives 15 where there is one and the area is below 74 bytes.
+#[tactic(auto, using(crate::proofs::Fed::finishing_none))]
 pub fn finish(line: &[u8], held: usize, out: &mut [u8]) -> Result<usize, Refusal>
     ensures answer { result ≡ written_as (finishing (length out.old) (begun_line line.now held)) }
     ensures area { out.new ≡ area_after (finishing (length out.old) (begun_line line.now held)) out.old }
