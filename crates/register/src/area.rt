@@ -12,7 +12,7 @@ ghost use Rattle.register.specs.Representation.{asked_as, counts_of};
 use crate::answer::{Asked, Counts};
 use crate::check;
 use iscc::refusal::Refusal;
-use loans::layout::{COUNTS_LENGTH, LAST_NUMBER_OFFSET, NUMBER_LENGTH};
+use loans::layout::{COUNTS_LENGTH, LAST_NUMBER, LAST_NUMBER_OFFSET, NUMBER_LENGTH};
 use places::ordered::Places;
 use places::search::Found;
 use places::{counts, place};
@@ -93,7 +93,11 @@ impl<'a> Register<'a> {
     pub(crate) fn next_number(self) -> Option<u32>
         ensures { result ≡ next_number (contents_of self.entry.area.now).last }
     {
-        self.last_number().checked_add(1)
+        let last = self.last_number();
+        if last == LAST_NUMBER {
+            return None;
+        }
+        Some(last + 1)
     }
 
     // Where the code stands in the order, or would stand.
