@@ -1,5 +1,5 @@
 -- `change::issue` meets its contract.
-use Rattle.std.proofs.Common.{sym, ◌∙◌}
+use Rattle.std.proofs.Common.{sym, ◌∙◌, arith}
 use Rattle.iscc.proofs.Digits.{below_all}
 use Rattle.loans.specs.Map.{issue_code}
 use Rattle.register.proofs.Changes.{spent, size-known, room-left, room_within, issue-out, issue-full, issue-done}
@@ -25,7 +25,7 @@ returns-then-used-eq-PLACES c =
     let next = rw c.new-register.ensures at c.next_number.ensures in
     let at = rw c.new-register.ensures at c.find-at.ensures in
     let used = rw c.new-register.ensures at c.codes_out-used.ensures.0 in
-    let t = issue-full c.args.code.now c.args.area.now c.requires.0 _ at _ _ next _ c.in-Some.is area c.args.borrower c.in-Err.is _ used c.if-used-eq-PLACES.true in
+    let t = issue-full c.args.code.now c.args.area.now c.requires.0 _ at _ _ next _ c.in-Some.is area c.args.borrower c.in-Err.is _ used (omega arith) in
     record { answer = t.0; area = t.1 }
 
 pub put-requires : goal.put-requires
