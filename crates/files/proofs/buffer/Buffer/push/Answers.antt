@@ -23,4 +23,4 @@ pushed area part x n k room l i m e =
     ∙ ap (λ j. take j (take n area ++ part)) (omega arith)
 
 pub returns : goal.returns
-returns g c = pushed c.args.self.now.bytes c.args.part.now _ c.args.self.now.length c.min-count.result g.row.N (search rules) (search rules) c.min-count.ensures (search rules)
+returns g c = pushed c.args.self.now.bytes c.args.part.now _ c.args.self.now.length _ g.row.N (search rules) (search rules) (omega arith) (search rules)
