@@ -8,7 +8,7 @@ pub returns-in_err-code-clause-is : goal.returns-in_err-code-clause-is
 returns-in_err-code-clause-is c = ap is_some c.from_residual.ensures ∙ c.in_err-code.ensures.is ∙ issue-is c.args.self.tag _ c.if-self-eq-ISSUE_TAG.true
 
 pub slice_bounds-number_in-end : goal.slice_bounds-number_in-end
-slice_bounds-number_in-end c = code-within c.args.self.body.now 8 (both_true _ _ (sym c.in_ok-code.ensures.is)).0
+slice_bounds-number_in-end c = omega (arith, code-within c.args.self.body.now 8 (both_true _ _ (sym c.in_ok-code.ensures.is)).0)
 
 pub returns-then-self-eq-ISSUE_TAG-clause-is : goal.returns-then-self-eq-ISSUE_TAG-clause-is
 returns-then-self-eq-ISSUE_TAG-clause-is c = c.in_ok-code.ensures.is ∙ issue-is c.args.self.tag _ c.if-self-eq-ISSUE_TAG.true
