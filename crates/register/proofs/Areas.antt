@@ -35,6 +35,10 @@ pub register-length : (area : List ℕ) → (length area ≡ 12308 → ⊥) → 
 unfolding is_register
 register-length area h = rw (ne_eqb (length area) 12308 h)
 
+-- the same, as the check finds it
+pub other_length : (area : List ℕ) → (length area ≡ 12308 → ⊥) → false ≡ is_register area
+other_length area n = register-length area n
+
 pub register-is : (area counts : List ℕ) → length area ≡ 12308 → counts ≡ counts_part area → (r : Bool)
     → r ≡ are_ordered (places_part area) && same_bytes counts (counts_bytes (loans_at (places_part area))) → r ≡ is_register area
 unfolding is_register

