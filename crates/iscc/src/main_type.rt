@@ -19,7 +19,8 @@ pub enum Name {
     Id = 6,
 }
 
-// A main type of the specification. A contract sees it as its name.
+// A main type of the specification. Its name is private, so outside this crate one comes from the constants, or from a number that the
+// table has. A contract sees it as its name.
 #[derive(Clone, Copy, Debug, PartialEq, Eq)]
 pub struct MainType {
     name: Name,
@@ -71,7 +72,7 @@ impl MainType {
         ]
     }
 
-    // Its name, which a `match` takes apart.
+    // Its name, for a `match`.
     pub fn name(self) -> Name
         ensures { result ≡ self }
     {

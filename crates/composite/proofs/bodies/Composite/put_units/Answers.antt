@@ -1,4 +1,4 @@
--- `Composite::put_units` meets its contract: one unit more is laid.
+-- `Composite::put_units` meets its contract: one unit more is laid. Its main type is read within the set, so by any default.
 use Rattle.std.proofs.Common.{◌≡◌, ◌<◌, arith, rules, length}
 use Rattle.std.proofs.lemmas.List.{get_or_default}
 use Rattle.iscc.specs.declared.main_type.Name.TheVariants.{Meta}
