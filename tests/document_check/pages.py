@@ -63,10 +63,10 @@ def open_document(path: str) -> Document:
     return Document(path, lines, prose, code)
 
 
-# Notes of past landings, of the port and of the design pass stay as they landed: they speak of their time, and names may be gone. A
-# landing adds the note before its own.
+# Notes of past landings, of the port, of the design pass and of the look back at it stay as they landed: they speak of their time, and
+# names may be gone. A landing adds the note before its own.
 LANDED = ("ground", "friendly", *"abcdefgh", "halls", "port")
-PAST = {"docs/PORT.md", "docs/DESIGN-PASS.md", *(f"docs/landings/{name}.md" for name in LANDED)}
+PAST = {"docs/PORT.md", "docs/DESIGN-PASS.md", "docs/LOOK-BACK.md", *(f"docs/landings/{name}.md" for name in LANDED)}
 
 
 def documents(index: Index) -> list[str]:
